@@ -1,0 +1,4 @@
+pub mod Refusal
+pub mod Number
+pub mod Code
+pub mod Room
