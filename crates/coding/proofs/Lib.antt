@@ -6,3 +6,4 @@ pub mod Loops
 pub mod Trips
 pub mod Source
 pub mod Rooms
+pub mod Grammars

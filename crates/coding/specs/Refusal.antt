@@ -5,6 +5,7 @@ use Rattle.coding.specs.declared.Cause.{Cause}
 use Rattle.coding.specs.declared.Cause.the-variants.{CutShort, NotShortest, TooLarge, LeftOver, NotAllowed, UnknownTag, PastLimit, NoRule, LongTurn, LongRun, NotClosed, BadTrace, ShortBuffer, NameAbsent}
 use Rattle.coding.specs.declared.Number.{Number}
 use Rattle.coding.specs.declared.Number.the-variants.{Value, Fault}
+use Rattle.coding.specs.declared.Told.{Told}
 use Rattle.coding.specs.declared.Answer.{Answer}
 use Rattle.coding.specs.declared.Answer.the-variants.{Count, Refused}
 
@@ -36,11 +37,6 @@ numberOf ShortBuffer = 10
 numberOf NameAbsent = 11
 
 -- An answer in the paper's numbers. "Refusals carry number and place, else nothing": number 0 stands for no refusal, and values follow it.
-pub record Told : Type 0 where
-  pub number : ℕ
-  pub value : ℕ
-  pub next : ℕ
-
 abbrev pub refusal : Cause → ℕ → Told
 refusal cause place = record { number = numberOf cause; value = place; next = 0 }
 

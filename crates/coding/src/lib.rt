@@ -37,6 +37,14 @@ pub enum Answer {
     Refused(Cause, usize),
 }
 
+// An answer in the paper's numbers, for callers outside: the number of refusal and its place, or 0 and the values that were found.
+#[repr(C)]
+pub struct Told {
+    pub number: u64,
+    pub value: u64,
+    pub next: u64,
+}
+
 // The paper's number of a cause.
 pub fn number_of(cause: Cause) -> u8
     ensures { λ r. ⌜ r ≡ numberOf cause ⌝ }

@@ -1,0 +1,4 @@
+pub mod Steps
+pub mod Products
+pub mod Unique
+pub mod Examples

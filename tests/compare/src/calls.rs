@@ -1,0 +1,63 @@
+//! The C interface as safe functions: a slice is valid for its length, and `&mut` overlaps nothing.
+
+/// An answer as include/scancheck.h has it.
+#[repr(C)]
+#[derive(Clone, Copy, Debug, PartialEq, Eq)]
+pub struct Told {
+    pub number: u64,
+    pub value: u64,
+    pub next: u64,
+}
+
+extern "C" {
+    fn scancheck_read_number(code: *const u8, length: usize, at: usize) -> Told;
+    fn scancheck_write_number(number: u16, buf: *mut u8, length: usize) -> Told;
+    fn scancheck_check_requirement(translated: bool, code: *const u8, length: usize) -> Told;
+    fn scancheck_read_requirement(translated: bool, code: *const u8, length: usize, out: *mut u16, room: usize) -> Told;
+    fn scancheck_write_requirement(translated: bool, numbers: *const u16, count: usize, buf: *mut u8, room: usize) -> Told;
+    fn scancheck_read_table(code: *const u8, length: usize, out: *mut u16, room: usize) -> Told;
+    fn scancheck_write_table(numbers: *const u16, count: usize, buf: *mut u8, room: usize) -> Told;
+    fn scancheck_read_inputs(inputs: u16, code: *const u8, length: usize, out: *mut u16, room: usize) -> Told;
+    fn scancheck_write_inputs(inputs: u16, numbers: *const u16, count: usize, buf: *mut u8, room: usize) -> Told;
+    fn scancheck_find(sheet: *const u8, length: usize, name: *const u8, name_length: usize) -> Told;
+}
+
+pub fn read_number(code: &[u8], at: usize) -> Told {
+    unsafe { scancheck_read_number(code.as_ptr(), code.len(), at) }
+}
+
+pub fn write_number(number: u16, buf: &mut [u8]) -> Told {
+    unsafe { scancheck_write_number(number, buf.as_mut_ptr(), buf.len()) }
+}
+
+pub fn check_requirement(translated: bool, code: &[u8]) -> Told {
+    unsafe { scancheck_check_requirement(translated, code.as_ptr(), code.len()) }
+}
+
+pub fn read_requirement(translated: bool, code: &[u8], out: &mut [u16]) -> Told {
+    unsafe { scancheck_read_requirement(translated, code.as_ptr(), code.len(), out.as_mut_ptr(), out.len()) }
+}
+
+pub fn write_requirement(translated: bool, numbers: &[u16], buf: &mut [u8]) -> Told {
+    unsafe { scancheck_write_requirement(translated, numbers.as_ptr(), numbers.len(), buf.as_mut_ptr(), buf.len()) }
+}
+
+pub fn read_table(code: &[u8], out: &mut [u16]) -> Told {
+    unsafe { scancheck_read_table(code.as_ptr(), code.len(), out.as_mut_ptr(), out.len()) }
+}
+
+pub fn write_table(numbers: &[u16], buf: &mut [u8]) -> Told {
+    unsafe { scancheck_write_table(numbers.as_ptr(), numbers.len(), buf.as_mut_ptr(), buf.len()) }
+}
+
+pub fn read_inputs(inputs: u16, code: &[u8], out: &mut [u16]) -> Told {
+    unsafe { scancheck_read_inputs(inputs, code.as_ptr(), code.len(), out.as_mut_ptr(), out.len()) }
+}
+
+pub fn write_inputs(inputs: u16, numbers: &[u16], buf: &mut [u8]) -> Told {
+    unsafe { scancheck_write_inputs(inputs, numbers.as_ptr(), numbers.len(), buf.as_mut_ptr(), buf.len()) }
+}
+
+pub fn find(sheet: &[u8], name: &[u8]) -> Told {
+    unsafe { scancheck_find(sheet.as_ptr(), sheet.len(), name.as_ptr(), name.len()) }
+}

@@ -1,0 +1,258 @@
+//! Compares every entry with the second program on random, damaged and extreme inputs.
+//!
+//!     compare [CASES [SEED]]
+//!
+//! Every lent buffer is filled with a pattern before each call and compared whole after it. Ends with status 1 at the
+//! first difference, which it prints with the seed of its case.
+
+mod calls;
+mod tally;
+
+use calls::Told;
+use second::code::Code;
+use second::random::{self, Random};
+use second::refusal::Refusal;
+use second::requirement::Which;
+use second::{inputs, number, requirement, sheet, table};
+use tally::Tally;
+
+/// What every refusal number of the readers and writers must have shown by the end of a run of full length.
+const MUST_REACH: &[(&str, &[u64])] = &[
+    ("read number", &[0, 1]),
+    ("write number", &[0, 10]),
+    ("check requirement", &[0, 1, 3, 4]),
+    ("read requirement", &[0, 1, 3, 4, 10]),
+    ("write requirement", &[0, 1, 3, 4, 10]),
+    ("read table", &[0, 1, 2, 10]),
+    ("write table", &[0, 1, 2, 10]),
+    ("read inputs", &[0, 1, 2, 10]),
+    ("write inputs", &[0, 1, 2, 10]),
+    ("find", &[0, 1, 2, 11]),
+];
+
+fn main() {
+    let mut words = std::env::args().skip(1);
+    let cases: u64 = words.next().map_or(100_000, |word| word.parse().expect("CASES is a number"));
+    let seed: u64 = words.next().map_or_else(from_clock, |word| word.parse().expect("SEED is a number"));
+    println!("seed {seed}");
+    let mut tally = Tally::default();
+    for case in 0..cases {
+        let mut random = Random::new(seed.wrapping_add(case));
+        if let Err(difference) = compare_one(&mut random, &mut tally) {
+            println!("DIFFERENT with seed {}: {difference}", seed.wrapping_add(case));
+            std::process::exit(1);
+        }
+    }
+    tally.print();
+    if cases >= 100_000 {
+        for (entry, numbers) in MUST_REACH {
+            for number in *numbers {
+                assert!(tally.reached(entry, *number), "{entry} never answered {number}");
+            }
+        }
+    }
+    println!("{} comparisons of {cases} cases, 0 differences", tally.cases);
+}
+
+fn from_clock() -> u64 {
+    std::time::UNIX_EPOCH.elapsed().map_or(1, |time| time.as_nanos() as u64)
+}
+
+fn compare_one(random: &mut Random, tally: &mut Tally) -> Result<(), String> {
+    match random.below(8) {
+        0 => numbers(random, tally),
+        1 | 2 => requirements(random, tally),
+        3..=5 => tables(random, tally),
+        6 => inputs_records(random, tally),
+        _ => sheets(random, tally),
+    }
+}
+
+/// An answer of the second program in the interface's form.
+fn told(answer: Result<(u64, u64), Refusal>) -> Told {
+    match answer {
+        Ok((value, next)) => Told { number: 0, value, next },
+        Err(refusal) => Told { number: refusal.number() as u64, value: refusal.place as u64, next: 0 },
+    }
+}
+
+fn counted(answer: Result<usize, Refusal>) -> Told {
+    told(answer.map(|count| (count as u64, 0)))
+}
+
+fn same<T: PartialEq + std::fmt::Debug>(what: &str, given: &T, wanted: &T, input: &dyn std::fmt::Debug) -> Result<(), String> {
+    if given == wanted {
+        return Ok(());
+    }
+    Err(format!("{what} gave {given:?}, the second program {wanted:?}, for {input:?}"))
+}
+
+/// A buffer with a pattern, twice: one for each program.
+fn byte_buffers(random: &mut Random, needed: usize) -> (Vec<u8>, Vec<u8>) {
+    let length = random::buffer_length(random, needed);
+    let buffer = random.bytes(length);
+    (buffer.clone(), buffer)
+}
+
+fn number_buffers(random: &mut Random, needed: usize) -> (Vec<u16>, Vec<u16>) {
+    let length = random::buffer_length(random, needed);
+    let buffer: Vec<u16> = (0..length).map(|_| random.next() as u16).collect();
+    (buffer.clone(), buffer)
+}
+
+/// The bytes of a code: as they should be, damaged, or any bytes.
+fn bytes_of(random: &mut Random, numbers: &[u16]) -> Vec<u8> {
+    let pieces = random::pieces_of_numbers(numbers);
+    match random.below(8) {
+        0..=2 => random::bytes_of_pieces(&pieces),
+        7 => {
+            let count = random.below(40);
+            random.bytes(count)
+        }
+        _ => random::damaged_bytes(random, &pieces),
+    }
+}
+
+/// The numbers of a code: as they should be, or damaged.
+fn numbers_of(random: &mut Random, numbers: &[u16]) -> Vec<u16> {
+    if random.below(8) < 3 {
+        return numbers.to_vec();
+    }
+    random::damaged_numbers(random, numbers)
+}
+
+fn numbers(random: &mut Random, tally: &mut Tally) -> Result<(), String> {
+    let count = random.below(6);
+    let code = match random.below(4) {
+        0 => random.bytes(count),
+        1 => random::too_large_spelling(random),
+        2 => {
+            let value = random.any_number();
+            random::longer_spelling(random, value)
+        }
+        _ => number::spelled(random.any_number()),
+    };
+    let mut places: Vec<usize> = (0..code.len() + 2).collect();
+    places.push(usize::MAX - random.below(4));
+    for at in places {
+        let given = calls::read_number(&code, at);
+        let wanted = told(number::read_number(&code, at).map(|found| (found.value as u64, found.after as u64)));
+        same("read number", &given, &wanted, &(&code, at))?;
+        tally.note("read number", given.number);
+    }
+    let value = random.any_number();
+    let bytes = number::spelled(value);
+    let (mut mine, mut theirs) = byte_buffers(random, bytes.len());
+    let given = calls::write_number(value, &mut mine);
+    let wanted = counted(second::code::fill(&bytes, &mut theirs));
+    same("write number", &(given, mine), &(wanted, theirs), &value)?;
+    tally.note("write number", given.number);
+    Ok(())
+}
+
+fn requirements(random: &mut Random, tally: &mut Tally) -> Result<(), String> {
+    let made_as = random.pick(&[Which::Untranslated, Which::Translated]);
+    let read_as = if random.once_in(6) { random.pick(&[Which::Untranslated, Which::Translated]) } else { made_as };
+    let translated = read_as == Which::Translated;
+    let made =
+        if random.once_in(6) { random::requirement_past_limit(random, made_as) } else { random::requirement(random, made_as) };
+
+    let code = bytes_of(random, &made);
+    let given = calls::check_requirement(translated, &code);
+    let checked = requirement::check_requirement(Code::Bytes(&code), read_as);
+    let wanted = told(checked.map(|found| (found.node_count as u64, found.depth as u64)));
+    same("check requirement", &given, &wanted, &(read_as, &code))?;
+    tally.note("check requirement", given.number);
+
+    let (mut mine, mut theirs) = number_buffers(random, made.len());
+    let given = calls::read_requirement(translated, &code, &mut mine);
+    let wanted = counted(requirement::read_requirement(&code, read_as, &mut theirs));
+    same("read requirement", &(given, mine), &(wanted, theirs), &(read_as, &code))?;
+    tally.note("read requirement", given.number);
+
+    let row = numbers_of(random, &made);
+    let (mut mine, mut theirs) = byte_buffers(random, row.len() + random.below(3));
+    let given = calls::write_requirement(translated, &row, &mut mine);
+    let wanted = counted(requirement::write_requirement(&row, read_as, &mut theirs));
+    same("write requirement", &(given, mine), &(wanted, theirs), &(read_as, &row))?;
+    tally.note("write requirement", given.number);
+    Ok(())
+}
+
+/// A table of numbers: mostly small, now and then full, or with one process too many; one field may be struck.
+fn made_table(random: &mut Random) -> Vec<u16> {
+    let mut made = match random.below(40) {
+        0 => random::full_table(random, table::MOST_PROCESSES),
+        1 => random::table(random, table::MOST_PROCESSES + 1),
+        _ => random::table(random, table::MOST_PROCESSES),
+    };
+    if random.once_in(2) {
+        random::damage_table_field(random, &mut made);
+    }
+    made
+}
+
+fn tables(random: &mut Random, tally: &mut Tally) -> Result<(), String> {
+    let made = made_table(random);
+    let code = bytes_of(random, &made);
+    let (mut mine, mut theirs) = number_buffers(random, made.len());
+    let given = calls::read_table(&code, &mut mine);
+    let wanted = counted(table::read_table(&code, &mut theirs));
+    same("read table", &(given, mine), &(wanted, theirs), &code)?;
+    tally.note("read table", given.number);
+
+    let row = numbers_of(random, &made);
+    let needed = second::code::bytes_of_numbers(&row).len();
+    let (mut mine, mut theirs) = byte_buffers(random, needed);
+    let given = calls::write_table(&row, &mut mine);
+    let wanted = counted(table::write_table(&row, &mut theirs));
+    same("write table", &(given, mine), &(wanted, theirs), &row)?;
+    tally.note("write table", given.number);
+    Ok(())
+}
+
+fn inputs_records(random: &mut Random, tally: &mut Tally) -> Result<(), String> {
+    let made_for = random::input_count(random);
+    let made = if random.once_in(40) { random::inputs_of(random, 1365, made_for) } else { random::inputs(random, made_for) };
+    let inputs_told = match random.below(12) {
+        0 => random.any_number() as usize,
+        1 => random.between(30, 35),
+        _ => made_for,
+    };
+    let code = bytes_of(random, &made);
+    let (mut mine, mut theirs) = number_buffers(random, made.len());
+    let given = calls::read_inputs(inputs_told as u16, &code, &mut mine);
+    let wanted = counted(inputs::read_inputs(&code, inputs_told, &mut theirs));
+    same("read inputs", &(given, mine), &(wanted, theirs), &(inputs_told, &code))?;
+    tally.note("read inputs", given.number);
+
+    let row = numbers_of(random, &made);
+    let needed = second::code::bytes_of_numbers(&row).len();
+    let (mut mine, mut theirs) = byte_buffers(random, needed);
+    let given = calls::write_inputs(inputs_told as u16, &row, &mut mine);
+    let wanted = counted(inputs::write_inputs(&row, inputs_told, &mut theirs));
+    same("write inputs", &(given, mine), &(wanted, theirs), &(inputs_told, &row))?;
+    tally.note("write inputs", given.number);
+    Ok(())
+}
+
+fn sheets(random: &mut Random, tally: &mut Tally) -> Result<(), String> {
+    let entries = random::entries(random);
+    let pieces = random::pieces_of_entries(&entries);
+    let bytes = match random.below(8) {
+        0..=3 => random::bytes_of_pieces(&pieces),
+        7 => {
+            let count = random.below(60);
+            random.bytes(count)
+        }
+        _ => random::damaged_bytes(random, &pieces),
+    };
+    for _ in 0..3 {
+        let name = random::name_to_ask(random, &entries);
+        let given = calls::find(&bytes, &name);
+        let wanted = told(sheet::look_up(&bytes, &name).map(|body| (body.begin as u64, body.end as u64)));
+        same("find", &given, &wanted, &(&bytes, &name))?;
+        tally.note("find", given.number);
+    }
+    Ok(())
+}

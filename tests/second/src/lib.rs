@@ -1,0 +1,19 @@
+//! The second program: a slow and plain checker, written from document 01 alone. The proved program is compared with it
+//! by running both on random and damaged inputs, so it shares no code with that program.
+//!
+//! Each rule stands under the few words of document 01 (or of its readings) that it stands for.
+
+#![forbid(unsafe_code)]
+
+pub mod code;
+pub mod inputs;
+pub mod number;
+pub mod random;
+pub mod refusal;
+pub mod requirement;
+pub mod sheet;
+pub mod table;
+pub mod trace;
+
+pub use code::Code;
+pub use refusal::{Cause, Refusal};
