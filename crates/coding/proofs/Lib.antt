@@ -7,3 +7,5 @@ pub mod Trips
 pub mod Source
 pub mod Rooms
 pub mod Grammars
+pub mod Unique
+pub mod Examples

@@ -171,7 +171,8 @@ fn requirements(random: &mut Random, tally: &mut Tally) -> Result<(), String> {
     tally.note("read requirement", given.number);
 
     let row = numbers_of(random, &made);
-    let (mut mine, mut theirs) = byte_buffers(random, row.len() + random.below(3));
+    let needed = second::code::bytes_of_numbers(&row).len();
+    let (mut mine, mut theirs) = byte_buffers(random, needed);
     let given = calls::write_requirement(translated, &row, &mut mine);
     let wanted = counted(requirement::write_requirement(&row, read_as, &mut theirs));
     same("write requirement", &(given, mine), &(wanted, theirs), &(read_as, &row))?;

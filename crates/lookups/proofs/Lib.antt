@@ -1,0 +1,3 @@
+pub mod Passed
+pub mod Order
+pub mod Structured

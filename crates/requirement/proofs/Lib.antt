@@ -1,0 +1,10 @@
+pub mod Tagging
+pub mod Allowing
+pub mod Nodes
+pub mod Trees
+pub mod Parts
+pub mod Answers
+pub mod Small
+pub mod Codes
+pub mod Undoing
+pub mod Examples

@@ -1,0 +1,5 @@
+pub mod Requirement
+pub mod Tags
+pub mod Limits
+pub mod Reading
+pub mod Summing

@@ -1,0 +1,5 @@
+pub mod Roles
+pub mod Steps
+pub mod FirstLook
+pub mod SecondLook
+pub mod Whole
