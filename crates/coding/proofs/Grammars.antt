@@ -75,7 +75,7 @@ module _ {grammar : Code → Answer} (fair : Fair grammar) where
       (fair .alike (codeAt s 0) (numbered 0 (values (codeAt s 0))) n (sym (k .0)) (k .1) e, write-back s small (fair .clean (codeAt s 0) n e))
 
   -- The bytes that a writer left in its buffer, read with room for their numbers, are these numbers again.
-  pub writing-undone : (xs buf out : List ℕ) (n : ℕ) → ((i : ℕ) → getD xs i 0 < 65536) → writeBy grammar xs buf ≡ Count n → length xs ≤ length out →
+  writing-undone : (xs buf out : List ℕ) (n : ℕ) → ((i : ℕ) → getD xs i 0 < 65536) → writeBy grammar xs buf ≡ Count n → length xs ≤ length out →
       (readBy grammar (take n (over buf 0 (bytesOfAll xs))) out ≡ Count (length xs)) × (values (codeAt (take n (over buf 0 (bytesOfAll xs))) 0) ≡ xs)
   writing-undone xs buf out n small e room =
       let a = accepted (length buf) n (resized (length (bytesOfAll xs)) (grammar (numbered 0 xs))) e in
@@ -86,7 +86,7 @@ module _ {grammar : Code → Answer} (fair : Fair grammar) where
       (rw (b, r .0, k, le-leb _ _ room), rw b (r .1))
 
   -- The numbers that a reader left in its buffer, written with room for their bytes, are these bytes again.
-  pub reading-undone : (s out buf : List ℕ) (n : ℕ) → ((i : ℕ) → getD s i 0 < 256) → readBy grammar s out ≡ Count n → length s ≤ length buf →
+  reading-undone : (s out buf : List ℕ) (n : ℕ) → ((i : ℕ) → getD s i 0 < 256) → readBy grammar s out ≡ Count n → length s ≤ length buf →
       (writeBy grammar (take n (over out 0 (values (codeAt s 0)))) buf ≡ Count (length s)) × (bytesOfAll (take n (over out 0 (values (codeAt s 0)))) ≡ s)
   reading-undone s out buf n small e room =
       let a = accepted (length out) n (grammar (codeAt s 0)) e in
@@ -94,3 +94,14 @@ module _ {grammar : Code → Answer} (fair : Fair grammar) where
       let b : take n (over out 0 (values (codeAt s 0))) ≡ values (codeAt s 0) = rw k (front out (values (codeAt s 0)) (omega arith)) in
       let r = read-then-written s n small (a .0) in
       (rw (b, r .0, r .1, le-leb _ _ room), rw b (r .1))
+
+-- Both: what was written, read with room for it, is the numbers again; and what was read, written with room for it, the bytes.
+abbrev pub Undone : (Code → Answer) → Type 0
+Undone grammar =
+    ((xs buf out : List ℕ) (n : ℕ) → ((i : ℕ) → getD xs i 0 < 65536) → writeBy grammar xs buf ≡ Count n → length xs ≤ length out →
+    (readBy grammar (take n (over buf 0 (bytesOfAll xs))) out ≡ Count (length xs)) × (values (codeAt (take n (over buf 0 (bytesOfAll xs))) 0) ≡ xs))
+    × ((s out buf : List ℕ) (n : ℕ) → ((i : ℕ) → getD s i 0 < 256) → readBy grammar s out ≡ Count n → length s ≤ length buf →
+    (writeBy grammar (take n (over out 0 (values (codeAt s 0)))) buf ≡ Count (length s)) × (bytesOfAll (take n (over out 0 (values (codeAt s 0)))) ≡ s))
+
+pub undone : {grammar : Code → Answer} → Fair grammar → Undone grammar
+undone fair = (writing-undone fair, reading-undone fair)

@@ -37,13 +37,16 @@ numberOf ShortBuffer = 10
 numberOf NameAbsent = 11
 
 -- An answer in the paper's numbers. "Refusals carry number and place, else nothing": number 0 stands for no refusal, and values follow it.
+abbrev pub accepted : ℕ → ℕ → Told
+accepted value next = record { number = 0; value = value; next = next }
+
 abbrev pub refusal : Cause → ℕ → Told
 refusal cause place = record { number = numberOf cause; value = place; next = 0 }
 
 abbrev pub numberTold : Number → Told
-numberTold (Value v next) = record { number = 0; value = v; next = next }
+numberTold (Value v next) = accepted v next
 numberTold (Fault cause place) = refusal cause place
 
 abbrev pub answerTold : Answer → Told
-answerTold (Count n) = record { number = 0; value = n; next = 0 }
+answerTold (Count n) = accepted n 0
 answerTold (Refused cause place) = refusal cause place

@@ -1,5 +1,6 @@
 // The C interface: a function for each public entry, its answer in the paper's numbers (include/scancheck.h).
 use coding::Answer;
+use coding::Cause;
 use coding::Number;
 use coding::Told;
 use requirement::Checked;
@@ -8,7 +9,7 @@ use sheet::Found;
 ghost use mathlib.Core.Path.{_≡_};
 ghost use Rattle.coding.specs.Number.{numberAt, bytesOf};
 ghost use Rattle.coding.specs.Code.{codeAt};
-ghost use Rattle.coding.specs.Refusal.{numberTold, answerTold};
+ghost use Rattle.coding.specs.Refusal.{accepted, refusal, numberTold, answerTold};
 ghost use Rattle.coding.specs.Room.{wroteNumber, stored};
 ghost use Rattle.ranges.specs.Limits.{mostProcesses};
 ghost use Rattle.requirement.specs.Reading.{checked, checkedTold, grammar};
@@ -16,20 +17,32 @@ ghost use Rattle.table.specs.Table.{tableGrammar, inputsGrammar};
 ghost use Rattle.sheet.specs.Sheet.{findIn, foundTold};
 ghost use Rattle.interface.specs.Calls.{kindOf, readTold, readLeaves, writeTold, writeLeaves};
 
+fn tell(value: usize, next: usize) -> Told
+    ensures { λ r. ⌜ r ≡ accepted value next ⌝ }
+{
+    Told {
+        number: 0,
+        value: value as u64,
+        next: next as u64,
+    }
+}
+
+fn tell_refusal(cause: Cause, place: usize) -> Told
+    ensures { λ r. ⌜ r ≡ refusal cause place ⌝ }
+{
+    Told {
+        number: coding::number_of(cause) as u64,
+        value: place as u64,
+        next: 0,
+    }
+}
+
 fn tell_number(n: Number) -> Told
     ensures { λ r. ⌜ r ≡ numberTold n ⌝ }
 {
     match n {
-        Number::Value(v, next) => Told {
-            number: 0,
-            value: v as u64,
-            next: next as u64,
-        },
-        Number::Fault(cause, place) => Told {
-            number: coding::number_of(cause) as u64,
-            value: place as u64,
-            next: 0,
-        },
+        Number::Value(v, next) => tell(v as usize, next),
+        Number::Fault(cause, place) => tell_refusal(cause, place),
     }
 }
 
@@ -37,16 +50,8 @@ fn tell_answer(a: Answer) -> Told
     ensures { λ r. ⌜ r ≡ answerTold a ⌝ }
 {
     match a {
-        Answer::Count(n) => Told {
-            number: 0,
-            value: n as u64,
-            next: 0,
-        },
-        Answer::Refused(cause, place) => Told {
-            number: coding::number_of(cause) as u64,
-            value: place as u64,
-            next: 0,
-        },
+        Answer::Count(n) => tell(n, 0),
+        Answer::Refused(cause, place) => tell_refusal(cause, place),
     }
 }
 
@@ -54,16 +59,8 @@ fn tell_checked(c: Checked) -> Told
     ensures { λ r. ⌜ r ≡ checkedTold c ⌝ }
 {
     match c {
-        Checked::Whole(nodes, depth) => Told {
-            number: 0,
-            value: nodes as u64,
-            next: depth as u64,
-        },
-        Checked::Refused(cause, place) => Told {
-            number: coding::number_of(cause) as u64,
-            value: place as u64,
-            next: 0,
-        },
+        Checked::Whole(nodes, depth) => tell(nodes as usize, depth as usize),
+        Checked::Refused(cause, place) => tell_refusal(cause, place),
     }
 }
 
@@ -71,16 +68,8 @@ fn tell_found(f: Found) -> Told
     ensures { λ r. ⌜ r ≡ foundTold f ⌝ }
 {
     match f {
-        Found::Body(begin, end) => Told {
-            number: 0,
-            value: begin as u64,
-            next: end as u64,
-        },
-        Found::Refused(cause, place) => Told {
-            number: coding::number_of(cause) as u64,
-            value: place as u64,
-            next: 0,
-        },
+        Found::Body(begin, end) => tell(begin, end),
+        Found::Refused(cause, place) => tell_refusal(cause, place),
     }
 }
 

@@ -1,5 +1,5 @@
 // What numbers a table and an inputs record may hold: a machine that takes one number at a time.
-mod allowed;
+pub mod allowed;
 
 ghost use mathlib.Core.Path.{_≡_};
 ghost use Rattle.ranges.specs.Order.{allowed, atSources, afterSource, atTests, afterTest, afterAction, stepOf};

@@ -8,3 +8,4 @@ pub mod Small
 pub mod Codes
 pub mod Undoing
 pub mod Examples
+pub mod Unique

@@ -7,7 +7,7 @@ use lib.ListN.{length}
 use lib.Dec.{ltb, eqb}
 use Rattle.coding.specs.Number.{pick, numberAt}
 use Rattle.coding.specs.Code.{Code, item, end, broken, values}
-use Rattle.coding.specs.Refusal.{refusal}
+use Rattle.coding.specs.Refusal.{accepted, refusal}
 use Rattle.coding.specs.declared.Told.{Told}
 use Rattle.coding.specs.declared.Cause.{Cause}
 use Rattle.coding.specs.declared.Cause.the-variants.{CutShort, LeftOver, UnknownTag, PastLimit}
@@ -121,5 +121,5 @@ nodeAt kind s at = nodeOf kind s at (numberAt s at)
 
 -- A check's answer in the paper's numbers.
 abbrev pub checkedTold : Checked → Told
-checkedTold (Whole nodes depth) = record { number = 0; value = nodes; next = depth }
+checkedTold (Whole nodes depth) = accepted nodes depth
 checkedTold (NotWhole cause place) = refusal cause place

@@ -6,7 +6,7 @@ use mathlib.Core.Bool.{Bool, true, false}
 use lib.ListN.{length, take, drop}
 use lib.Dec.{ltb, leb, eqb}
 use Rattle.coding.specs.Number.{pick, numberAt}
-use Rattle.coding.specs.Refusal.{refusal}
+use Rattle.coding.specs.Refusal.{accepted, refusal}
 use Rattle.coding.specs.declared.Told.{Told}
 use Rattle.coding.specs.declared.Cause.{Cause}
 use Rattle.coding.specs.declared.Cause.the-variants.{CutShort, LeftOver, NotAllowed, NameAbsent}
@@ -111,5 +111,5 @@ startOf (NotFound cause place) = 0
 
 -- A lookup's answer in the paper's numbers.
 abbrev pub foundTold : Found → Told
-foundTold (Body begin end) = record { number = 0; value = begin; next = end }
+foundTold (Body begin end) = accepted begin end
 foundTold (NotFound cause place) = refusal cause place

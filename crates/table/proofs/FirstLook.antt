@@ -8,7 +8,7 @@ use mathlib.Core.Bool.{Bool}
 use mathlib.Core.List.{List}
 use lib.ListN.{length}
 use borrow.Author.Tests.{lt-ltb, le-ltb}
-use Rattle.coding.specs.Code.{Code, item, end, broken, sourceNumber, sourceSize, sourceAt}
+use Rattle.coding.specs.Code.{Code, sourceNumber, sourceSize, sourceAt}
 use Rattle.coding.specs.declared.Cause.{Cause}
 use Rattle.coding.specs.declared.Cause.the-variants.{LeftOver, NotAllowed}
 use Rattle.coding.specs.declared.Number.{Number}
@@ -18,17 +18,25 @@ use Rattle.coding.specs.declared.Answer.the-variants.{Count, Refused}
 use Rattle.coding.proofs.Source.{Turn, turn}
 use Rattle.ranges.specs.Order.{stepOf}
 use Rattle.ranges.specs.declared.Want.{Want}
-use Rattle.ranges.specs.declared.Step.{Step}
 use Rattle.ranges.specs.declared.Step.the-variants.{More, Last, NotAllowed as Bad}
 use Rattle.table.specs.declared.Role.{Role}
 use Rattle.table.specs.Table.{roleOf, noted, noCounts, ended, endedAt, check, countsFrom}
-use Rattle.table.proofs.Steps.{check-more, counts-more, check-last, counts-last, check-bad, counts-bad}
+use Rattle.table.proofs.Steps.{check-item, counts-item, turned, stopped}
 
 -- whether something is left over shows by the place
+module _ (n next size : ℕ) where
+  pub some-left : next < size → Refused LeftOver next ≡ endedAt n next size
+  unfolding endedAt
+  some-left h = rw (lt-ltb _ _ h)
+
+  pub none-left : size ≤ next → Count n ≡ endedAt n next size
+  unfolding endedAt
+  none-left h = rw (le-ltb _ _ h)
+
 ends-at : (row : ℕ → Code) (size at n : ℕ) (r : Number) → Turn row size at r → endedAt n at size ≡ ended n (row at)
-unfolding endedAt
-ends-at row size at n (Value v m) t = let h : at < size = omega arith in rw (t .0, lt-ltb _ _ h)
-ends-at row size at n (Fault cause q) t = ⊎-elim (λ o. rw (o .2, le-ltb _ _ (o .0))) (λ o. rw (o .1, lt-ltb _ _ (o .0))) (t .1)
+ends-at row size at n (Value v m) t = rw (t .0) (sym (some-left n at size (omega arith)))
+ends-at row size at n (Fault cause q) t =
+    ⊎-elim (λ o. rw (o .2) (sym (none-left n at size (o .0)))) (λ o. rw (o .1) (sym (some-left n at size (o .0)))) (t .1)
 
 -- what is found where the look begins
 abbrev pub Found : ℕ → Want → Code → Answer → List ℕ → Type 0
@@ -49,30 +57,34 @@ module _ {most : ℕ} {fromBytes : Bool} {s xs : List ℕ} {first : Want} {count
   pub stops : (cause : Cause) (q : ℕ) → Fault cause q ≡ sourceNumber fromBytes s xs at → Found most first (sourceAt fromBytes s xs 0) (Refused cause q) counts
   unfolding check countsFrom
   stops cause q e =
-      let t : Turn (sourceAt fromBytes s xs) (sourceSize fromBytes s xs) at (Fault cause q) = rw (← e) at (turn fromBytes s xs at) in
+      let t = stopped fromBytes s xs at cause q e in
       rw (t .0, ← i .left, ← i .kept) (⊎-elim (λ o. rw (o .2, o .1) (refl, refl)) (λ o. rw (o .1) (refl, refl)) (t .1))
 
   module _ (v next : ℕ) (e : Value v next ≡ sourceNumber fromBytes s xs at) where
-    pub turned : (sourceAt fromBytes s xs at ≡ item at v (sourceAt fromBytes s xs next)) × (at < next) × (next ≤ sourceSize fromBytes s xs)
-    turned = rw (← e) at (turn fromBytes s xs at)
+    pub passes : (at < next) × (next ≤ sourceSize fromBytes s xs) × (n + 1 ≤ next)
+    passes = let u = turned fromBytes s xs at v next e in (u .1, u .2, omega (arith, i .few))
 
     pub refuses : Bad ≡ stepOf most want v → Found most first (sourceAt fromBytes s xs 0) (Refused NotAllowed at) counts
-    refuses t = rw (← i .left, ← i .kept, turned .0) (check-bad most want at v _ t n, counts-bad most want at v _ t counts)
+    refuses t =
+        rw (← i .left, ← i .kept, turned fromBytes s xs at v next e .0)
+        (check-item most want at v _ Bad t n, counts-item most want at v (sourceAt fromBytes s xs next) Bad t counts)
 
     pub finishes : (size : ℕ) (r : Answer) → size ≡ sourceSize fromBytes s xs → r ≡ endedAt (n + 1) next size → Last ≡ stepOf most want v →
         Found most first (sourceAt fromBytes s xs 0) r counts
     finishes size r z a t =
         let ended-there = ends-at (sourceAt fromBytes s xs) (sourceSize fromBytes s xs) next (n + 1) (sourceNumber fromBytes s xs next) (turn fromBytes s xs next) in
-        rw (a, z, ended-there, ← i .left, ← i .kept, turned .0) (check-last most want at v _ t n, counts-last most want at v _ t counts)
+        rw (a, z, ended-there, ← i .left, ← i .kept, turned fromBytes s xs at v next e .0)
+        (check-item most want at v _ Last t n, counts-item most want at v (sourceAt fromBytes s xs next) Last t counts)
 
     pub goes-on : (to : Want) (role : Role) (counts′ : List ℕ) → More to ≡ stepOf most want v → role ≡ roleOf want → counts′ ≡ noted role v counts →
         length counts′ ≡ length counts → Looks most fromBytes s xs first counts′ to next (n + 1)
     goes-on to role counts′ t k m l =
+        let u = turned fromBytes s xs at v next e in
         let m′ : counts′ ≡ noted (roleOf want) v counts = m ∙ ap (λ (r : Role). noted r v counts) k in
         record {
-          left = rw (← i .left, turned .0) (check-more most want at v _ to t n);
-          kept = rw (m′, ← i .kept, turned .0) (counts-more most want at v _ to t counts);
+          left = rw (← i .left, u .0) (check-item most want at v _ (More to) t n);
+          kept = rw (m′, ← i .kept, u .0) (counts-item most want at v (sourceAt fromBytes s xs next) (More to) t counts);
           room = l ∙ i .room;
-          few = omega (arith, turned);
-          inside = turned .2;
+          few = passes .2;
+          inside = u .2;
         }

@@ -3,3 +3,8 @@ pub mod Steps
 pub mod FirstLook
 pub mod SecondLook
 pub mod Whole
+pub mod Alike
+pub mod Fair
+pub mod Undone
+pub mod Unique
+pub mod Examples

@@ -13,6 +13,7 @@ use Rattle.table.specs.Table.{roleOf, noted}
 use Rattle.ranges.proofs.Want as want
 use Rattle.table.proofs.Role as role
 
+-- the cases of `Want`, by their order, but a test's a and b and the counts of processes and states
 abbrev passed : List ℕ
 passed = 0 ∷ 1 ∷ 2 ∷ 3 ∷ 4 ∷ 5 ∷ 10 ∷ 11 ∷ 12 ∷ 13 ∷ 14 ∷ 15 ∷ 16 ∷ 17 ∷ 18 ∷ 19 ∷ []
 

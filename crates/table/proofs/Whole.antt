@@ -1,19 +1,19 @@
 -- The grammar of a whole source from its looks, and a reader and a writer by a grammar.
 -- Assumes nothing.
 use Prim.Native.Nat.{ℕ, _≤_, _<_}
-use mathlib.Core.Path.{_≡_, refl, sym, _∙_}
+use mathlib.Core.Path.{_≡_}
 use mathlib.Core.Bool.{true, false}
 use mathlib.Core.List.{List}
 use lib.ListN.{length}
 use borrow.Author.Tests.{lt-ltb, le-ltb}
-use Rattle.coding.specs.Code.{Code, codeAt, numbered, values, bytesOfAll, sourceAt}
+use Rattle.coding.specs.Code.{Code, codeAt, values, bytesOfAll, sourceAt}
 use Rattle.coding.specs.Room.{settled, resized, stored, readBy, writeBy}
 use Rattle.coding.specs.declared.Cause.{Cause}
 use Rattle.coding.specs.declared.Cause.the-variants.{NotAllowed}
 use Rattle.coding.specs.declared.Answer.{Answer}
 use Rattle.coding.specs.declared.Answer.the-variants.{Count, Refused}
 use Rattle.ranges.specs.declared.Want.the-variants.{Scans}
-use Rattle.table.specs.Table.{noCounts, tableStart, check, countsFrom, testsFrom, tableGrammar, inputsGrammar}
+use Rattle.table.specs.Table.{tableStart, check, testsFrom, tableGrammar, inputsGrammar}
 use Rattle.table.proofs.FirstLook.{Found}
 
 -- a table: the first look, and the second where the first accepts

@@ -14,7 +14,7 @@ ghost use Rattle.ranges.specs.Limits.{mostProcesses};
 ghost use Rattle.table.specs.Table.{roleOf, check, countsFrom, noted, noCounts, endedAt, tableGrammar, inputsGrammar};
 
 // What a number that is wanted is to the second look at the tests.
-pub enum Role {
+enum Role {
     // how many processes there are
     ProcessCount,
     // how many active states a process has
@@ -31,7 +31,7 @@ struct Seen {
     counts: [u16; 65],
 }
 
-pub fn role_of(want: Want) -> Role
+fn role_of(want: Want) -> Role
     ensures { λ r. ⌜ r ≡ roleOf want ⌝ }
 {
     match want {

@@ -8,7 +8,6 @@ use ranges::Want;
 ghost use mathlib.Core.Path.{_≡_};
 ghost use lib.ListN.{getD};
 ghost use Rattle.coding.specs.Code.{sourceAt};
-ghost use Rattle.ranges.specs.Values.{within};
 ghost use Rattle.table.specs.Table.{tableStart, stateOk, fineIf, testSays, testsFrom};
 
 // What the second look says of a number: fine, wrong, or that all the tests are behind.
@@ -37,18 +36,6 @@ fn state_ok(states: u16, b: u16) -> bool
     b <= states
 }
 
-fn process_ok(a: u16, processes: u16) -> bool
-    ensures { λ r. ⌜ r ≡ within 1 a processes ⌝ }
-{
-    if a < 1 {
-        return false;
-    }
-    if processes < a {
-        return false;
-    }
-    true
-}
-
 fn count_at(counts: &[u16], i: u16) -> u16
     ensures { λ r. ⌜ r ≡ getD (now (counts .entry)) i 0 ⌝ }
 {
@@ -65,7 +52,7 @@ fn test_says(counts: &[u16], role: Role, v: u16) -> Test
     match role {
         Role::OfTestA(kind) => {
             if kind == 2 {
-                return fine_if(process_ok(v, count_at(counts, 0)));
+                return fine_if(ranges::allowed::between(1, v, count_at(counts, 0)));
             }
             Test::Fine
         }

@@ -1,8 +1,8 @@
 use Prim.Native.Nat.{_-_}
 use native.Mathlib.Omega.{arith}
-use mathlib.Core.Path.{sym, _∙_, ap}
+use mathlib.Core.Path.{sym, _∙_}
 use Rattle.coding.specs.Code.{sourceSize}
-use Rattle.table.proofs.FirstLook.{Looks, begins, stops, turned, refuses, finishes, goes-on}
+use Rattle.table.proofs.FirstLook.{Looks, begins, stops, passes, refuses, finishes, goes-on}
 use borrow.Author.Needs.{needs}
 use Rattle.table.proofs.look.Statement.{statement}
 use Rattle.table.proofs.look.Tie as tie
@@ -52,7 +52,7 @@ enum-told-2 : tie.Need-enum-told-2 Inv-loop μ-loop
 enum-told-2 c = search needs
 
 add-ended-at : tie.Need-add-ended-at Inv-loop μ-loop
-add-ended-at c = omega (arith, turned (c .before .before .before .before .before .before .before .loop .inv) _ _ (sym (c .before .before .before .before .v .given .1) ∙ c .before .before .before .before .before .before .number-at .ensures), c .before .before .before .before .before .before .before .loop .inv .few)
+add-ended-at c = omega (arith, passes (c .before .before .before .before .before .before .before .loop .inv) _ _ (sym (c .before .before .before .before .v .given .1) ∙ c .before .before .before .before .before .before .number-at .ensures))
 
 ended-at-requires : tie.Need-ended-at-requires Inv-loop μ-loop
 ended-at-requires c κs = search needs
@@ -73,10 +73,10 @@ note-requires : tie.Need-note-requires Inv-loop μ-loop
 note-requires c κs = search needs
 
 add-n : tie.Need-add-n Inv-loop μ-loop
-add-n c = omega (arith, turned (c .before .before .before .before .before .before .before .before .before .before .before .before .loop .inv) _ _ (sym (c .before .before .before .before .before .before .before .before .before .v .given .1) ∙ c .before .before .before .before .before .before .before .before .before .before .before .number-at .ensures), c .before .before .before .before .before .before .before .before .before .before .before .before .loop .inv .few)
+add-n c = omega (arith, passes (c .before .before .before .before .before .before .before .before .before .before .before .before .loop .inv) _ _ (sym (c .before .before .before .before .before .before .before .before .before .v .given .1) ∙ c .before .before .before .before .before .before .before .before .before .before .before .number-at .ensures))
 
 loop-less : tie.Need-loop-less Inv-loop μ-loop
-loop-less c = omega (arith, turned (c .before .before .before .before .before .before .before .before .before .before .before .before .loop .inv) _ _ (sym (c .before .before .before .before .before .before .before .before .before .v .given .1) ∙ c .before .before .before .before .before .before .before .before .before .before .before .number-at .ensures))
+loop-less c = omega (arith, passes (c .before .before .before .before .before .before .before .before .before .before .before .before .loop .inv) _ _ (sym (c .before .before .before .before .before .before .before .before .before .v .given .1) ∙ c .before .before .before .before .before .before .before .before .before .before .before .number-at .ensures))
 
 loop-again : tie.Need-loop-again Inv-loop μ-loop
 loop-again c = goes-on (c .before .before .before .before .before .before .before .before .before .before .before .before .loop .inv) _ _ (sym (c .before .before .before .before .before .before .before .before .before .v .given .1) ∙ c .before .before .before .before .before .before .before .before .before .before .before .number-at .ensures) _ _ _ (sym (c .before .before .before .before .before .more .given .1) ∙ c .before .before .before .before .before .before .before .advance .ensures)

@@ -1,10 +1,10 @@
 use Prim.Native.Nat.{_-_}
 use native.Mathlib.Omega.{arith}
-use mathlib.Core.Path.{sym, _∙_, ap}
+use mathlib.Core.Path.{refl, sym, _∙_}
 use Rattle.coding.specs.Code.{sourceSize}
-use Rattle.table.specs.declared.Role.{Role}
-use Rattle.table.specs.Table.{testSays}
-use Rattle.table.proofs.SecondLook.{Tests, begins, stops, turned, wrong, behind, bad, last, goes-on}
+use Rattle.ranges.specs.declared.Step.the-variants.{Last, NotAllowed as Bad}
+use Rattle.table.specs.declared.tests.Test.the-variants.{Fine, Wrong, Behind}
+use Rattle.table.proofs.SecondLook.{Tests, begins, stops, passes, says-so, goes-on}
 use borrow.Author.Needs.{needs}
 use Rattle.table.proofs.tests.second_look.Statement.{statement}
 use Rattle.table.proofs.tests.second_look.Tie as tie
@@ -46,13 +46,13 @@ enum-told-2 : tie.Need-enum-told-2 Inv-loop μ-loop
 enum-told-2 c = search needs
 
 returns-2 : tie.Need-returns-2 Inv-loop μ-loop
-returns-2 c = wrong (c .before .before .before .before .before .before .before .before .loop .inv) _ _ (sym (c .before .before .before .before .before .v .given .1) ∙ c .before .before .before .before .before .before .before .number-at .ensures) _ (c .before .before .before .role-of .ensures) (sym (c .enum-told2 .given .1) ∙ c .before .before .test-says .ensures)
+returns-2 c = says-so (c .before .before .before .before .before .before .before .before .loop .inv) _ _ (sym (c .before .before .before .before .before .v .given .1) ∙ c .before .before .before .before .before .before .before .number-at .ensures) _ (c .before .before .before .role-of .ensures) Wrong (sym (c .enum-told2 .given .1) ∙ c .before .before .test-says .ensures) _ refl
 
 enum-told-3 : tie.Need-enum-told-3 Inv-loop μ-loop
 enum-told-3 c = search needs
 
 returns-3 : tie.Need-returns-3 Inv-loop μ-loop
-returns-3 c = behind (c .before .before .before .before .before .before .before .before .loop .inv) _ _ (sym (c .before .before .before .before .before .v .given .1) ∙ c .before .before .before .before .before .before .before .number-at .ensures) _ (c .before .before .before .role-of .ensures) (sym (c .enum-told3 .given .1) ∙ c .before .before .test-says .ensures)
+returns-3 c = says-so (c .before .before .before .before .before .before .before .before .loop .inv) _ _ (sym (c .before .before .before .before .before .v .given .1) ∙ c .before .before .before .before .before .before .before .number-at .ensures) _ (c .before .before .before .role-of .ensures) Behind (sym (c .enum-told3 .given .1) ∙ c .before .before .test-says .ensures) _ refl
 
 enum-told-4 : tie.Need-enum-told-4 Inv-loop μ-loop
 enum-told-4 c = search needs
@@ -64,22 +64,22 @@ enum-told-5 : tie.Need-enum-told-5 Inv-loop μ-loop
 enum-told-5 c = search needs
 
 returns-4 : tie.Need-returns-4 Inv-loop μ-loop
-returns-4 c = bad (c .before .before .before .before .before .before .before .before .before .before .before .loop .inv) _ _ (sym (c .before .before .before .before .before .before .before .before .v .given .1) ∙ c .before .before .before .before .before .before .before .before .before .before .number-at .ensures) _ (c .before .before .before .before .before .before .role-of .ensures) (sym (c .before .before .before .enum-told4 .given .1) ∙ c .before .before .before .before .before .test-says .ensures) (sym (c .enum-told5 .given .1) ∙ c .before .before .advance .ensures)
+returns-4 c = says-so (c .before .before .before .before .before .before .before .before .before .before .before .loop .inv) _ _ (sym (c .before .before .before .before .before .before .before .before .v .given .1) ∙ c .before .before .before .before .before .before .before .before .before .before .number-at .ensures) _ (c .before .before .before .before .before .before .role-of .ensures) Fine (sym (c .before .before .before .enum-told4 .given .1) ∙ c .before .before .before .before .before .test-says .ensures) Bad (sym (c .enum-told5 .given .1) ∙ c .before .before .advance .ensures)
 
 enum-told-6 : tie.Need-enum-told-6 Inv-loop μ-loop
 enum-told-6 c = search needs
 
 returns-5 : tie.Need-returns-5 Inv-loop μ-loop
-returns-5 c = last (c .before .before .before .before .before .before .before .before .before .before .before .loop .inv) _ _ (sym (c .before .before .before .before .before .before .before .before .v .given .1) ∙ c .before .before .before .before .before .before .before .before .before .before .number-at .ensures) _ (c .before .before .before .before .before .before .role-of .ensures) (sym (c .before .before .before .enum-told4 .given .1) ∙ c .before .before .before .before .before .test-says .ensures) (sym (c .enum-told6 .given .1) ∙ c .before .before .advance .ensures)
+returns-5 c = says-so (c .before .before .before .before .before .before .before .before .before .before .before .loop .inv) _ _ (sym (c .before .before .before .before .before .before .before .before .v .given .1) ∙ c .before .before .before .before .before .before .before .before .before .before .number-at .ensures) _ (c .before .before .before .before .before .before .role-of .ensures) Fine (sym (c .before .before .before .enum-told4 .given .1) ∙ c .before .before .before .before .before .test-says .ensures) Last (sym (c .enum-told6 .given .1) ∙ c .before .before .advance .ensures)
 
 enum-known-more : tie.Need-enum-known-more Inv-loop μ-loop
 enum-known-more c = search needs
 
 loop-less : tie.Need-loop-less Inv-loop μ-loop
-loop-less c = omega (arith, turned (c .before .before .before .before .before .before .before .before .before .before .before .before .loop .inv) _ _ (sym (c .before .before .before .before .before .before .before .before .before .v .given .1) ∙ c .before .before .before .before .before .before .before .before .before .before .before .number-at .ensures))
+loop-less c = omega (arith, passes (c .before .before .before .before .before .before .before .before .before .before .before .before .loop .inv) _ _ (sym (c .before .before .before .before .before .before .before .before .before .v .given .1) ∙ c .before .before .before .before .before .before .before .before .before .before .before .number-at .ensures))
 
 loop-again : tie.Need-loop-again Inv-loop μ-loop
-loop-again c = goes-on (c .before .before .before .before .before .before .before .before .before .before .before .before .loop .inv) _ _ (sym (c .before .before .before .before .before .before .before .before .before .v .given .1) ∙ c .before .before .before .before .before .before .before .before .before .before .before .number-at .ensures) _ (c .before .before .before .before .before .before .before .role-of .ensures) (sym (c .before .before .before .before .enum-told4 .given .1) ∙ c .before .before .before .before .before .before .test-says .ensures) _ (sym (c .before .more .given .1) ∙ c .before .before .before .advance .ensures)
+loop-again c = goes-on (c .before .before .before .before .before .before .before .before .before .before .before .before .loop .inv) _ _ (sym (c .before .before .before .before .before .before .before .before .before .v .given .1) ∙ c .before .before .before .before .before .before .before .before .before .before .before .number-at .ensures) _ _ (c .before .before .before .before .before .before .before .role-of .ensures) (sym (c .before .before .before .before .enum-told4 .given .1) ∙ c .before .before .before .before .before .before .test-says .ensures) (sym (c .before .more .given .1) ∙ c .before .before .before .advance .ensures)
 
 pub second-look-spec : {M : Type 1} → statement M
 second-look-spec =

@@ -6,7 +6,7 @@ use Rattle.table.proofs.tests.test_says.Reads as reads
 use Rattle.table.proofs.tests.test_says.Lts as lts
 use Rattle.table.proofs.tests.count_at.Reads as count-at-reads
 use Rattle.table.proofs.tests.fine_if.Reads as fine-if-reads
-use Rattle.table.proofs.tests.process_ok.Reads as process-ok-reads
+use Rattle.ranges.proofs.allowed.between.Reads as between-reads
 use Rattle.table.proofs.tests.state_ok.Reads as state-ok-reads
 
 enum-known-role : tie.Need-enum-known-role
@@ -15,14 +15,14 @@ enum-known-role c = search needs
 count-at-requires : tie.Need-count-at-requires
 count-at-requires c κs = search needs
 
-process-ok-requires : tie.Need-process-ok-requires
-process-ok-requires c κs = search needs
+between-requires : tie.Need-between-requires
+between-requires c κs = search needs
 
 fine-if-requires : tie.Need-fine-if-requires
 fine-if-requires c κs = search needs
 
 returns : tie.Need-returns
-returns c = rw (c .before .before .before .before .before .role .given .1, eq-eqb _ _ (c .before .before .before .if1 .taken), ← c .before .before .count-at .ensures, ← c .before .process-ok .ensures) (c .fine-if .ensures)
+returns c = rw (c .before .before .before .before .before .role .given .1, eq-eqb _ _ (c .before .before .before .if1 .taken), ← c .before .before .count-at .ensures, ← c .before .between .ensures) (c .fine-if .ensures)
 
 enum-known-role-2 : tie.Need-enum-known-role-2
 enum-known-role-2 c = search needs
@@ -69,7 +69,7 @@ test-says-spec =
     (tie.spec
     enum-known-role
     count-at-requires
-    process-ok-requires
+    between-requires
     fine-if-requires
     returns
     enum-known-role-2
