@@ -36,6 +36,7 @@ fn main() {
     sheets(&mut vectors);
     let written_out = vectors.cases;
     random_cases(&mut vectors);
+    assert!(vectors.stdin.len() <= 250_000, "the program's input is that long at most");
     std::fs::write(format!("{folder}/stdin"), &vectors.stdin).expect("stdin is written");
     std::fs::write(format!("{folder}/stdout"), &vectors.stdout).expect("stdout is written");
     println!("{} cases, {written_out} of them written out; {} bytes", vectors.cases, vectors.stdin.len());

@@ -1,0 +1,7 @@
+pub mod Takes
+pub mod Looks
+pub mod Parts
+pub mod Front
+pub mod Values
+pub mod Counts
+pub mod Whole
