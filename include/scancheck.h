@@ -3,8 +3,12 @@
  *
  * Every function takes any bytes and any numbers, ends, and answers by the numbers of document 01. What is proved of each stands
  * in crates/interface/src/lib.rt. Nothing can check the following here, so the caller must see to it:
- *   - a pointer is valid for the length that follows it (counted in elements; with length 0 it may be any pointer);
- *   - a buffer that is written to overlaps no other argument.
+ *   - a pointer is valid for the length that follows it (counted in elements; with length 0 it may be any pointer), and one to
+ *     16-bit numbers is aligned for them;
+ *   - a buffer that is written to overlaps no other argument;
+ *   - a bool is 0 or 1, and an argument of 16 bits is not above 65,535 before the call (C would cut it).
+ *
+ * Bytes, numbers and places count from 0. A reader's places are bytes, a writer's are indices of numbers.
  */
 #ifndef SCANCHECK_H
 #define SCANCHECK_H
@@ -17,28 +21,28 @@
 extern "C" {
 #endif
 
-/* number: the refusal's number, or 0 if nothing is refused. value: the refusal's place, or the first value. next: the second value, or 0. */
+/* refusal: the refusal's number, or 0 if nothing is refused. first: the refusal's place, or the first value. second: the second value, or 0. */
 typedef struct {
-    uint64_t number;
-    uint64_t value;
-    uint64_t next;
+    uint64_t refusal;
+    uint64_t first;
+    uint64_t second;
 } scancheck_told;
 
-/* The number whose first byte is at `at`. value: the number; next: the place after it. Refusal 1 at `at`. */
+/* The number whose first byte is at `at`. first: the number; second: the place after it. Refusal 1 at `at`. */
 scancheck_told scancheck_read_number(const uint8_t *code, size_t code_length, size_t at);
 
-/* The number's bytes into the first bytes of buf. value: how many (1 to 3). Refusal 10. The rest of buf stays; on a refusal all of it. */
+/* The number's bytes into the first bytes of buf. first: how many (1 to 3). Refusal 10. The rest of buf stays; on a refusal all of it. */
 scancheck_told scancheck_write_number(uint16_t number, uint8_t *buf, size_t buf_length);
 
-/* A requirement's bytes, untranslated or translated. value: its nodes; next: its depth. Refusals 1, 3, 4. */
+/* A requirement's bytes, untranslated or translated. first: its nodes; second: its depth. Refusals 1, 3, 4. */
 scancheck_told scancheck_check_requirement(bool translated, const uint8_t *code, size_t code_length);
 
 /*
- * Reading: bytes into 16-bit numbers from out[0] on. value: how many. 10 comes last, its place the numbers needed.
- * Writing: numbers into bytes from buf[0] on. value: how many. Places are indices of numbers; 10 comes last, its place the bytes needed.
+ * Reading: bytes into 16-bit numbers from out[0] on. first: how many. 10 comes last, its place the numbers needed.
+ * Writing: numbers into bytes from buf[0] on. first: how many. Places are indices of numbers; 10 comes last, its place the bytes needed.
  * The rest of the buffer stays as it was; on a refusal all of it.
  */
-/* Refusals 1, 3, 4, 10. */
+/* Refusals 1, 3, 4, 10. A requirement has at most 96 numbers, a translated one 1,056. */
 scancheck_told scancheck_read_requirement(bool translated, const uint8_t *code, size_t code_length, uint16_t *out, size_t out_length);
 scancheck_told scancheck_write_requirement(bool translated, const uint16_t *numbers, size_t count, uint8_t *buf, size_t buf_length);
 
@@ -46,11 +50,12 @@ scancheck_told scancheck_write_requirement(bool translated, const uint16_t *numb
 scancheck_told scancheck_read_table(const uint8_t *code, size_t code_length, uint16_t *out, size_t out_length);
 scancheck_told scancheck_write_table(const uint16_t *numbers, size_t count, uint8_t *buf, size_t buf_length);
 
-/* Refusals 1, 2, 10. `inputs` is the table's count of input variables; above 32 it is refusal 2 at 0, first. */
+/* Refusals 1, 2, 10. `inputs` is the table's count of input variables; above 32 it is refusal 2 at 0, first.
+   An inputs record has at most 43,682 numbers. */
 scancheck_told scancheck_read_inputs(uint16_t inputs, const uint8_t *code, size_t code_length, uint16_t *out, size_t out_length);
 scancheck_told scancheck_write_inputs(uint16_t inputs, const uint16_t *numbers, size_t count, uint8_t *buf, size_t buf_length);
 
-/* The body of a name in a sheet. value: the place where it begins; next: the place after its end. Refusals 1, 2, 11. */
+/* The body of a name in a sheet. first: the place where it begins; second: the place after its end. Refusals 1, 2, 11. */
 scancheck_told scancheck_find(const uint8_t *sheet, size_t sheet_length, const uint8_t *name, size_t name_length);
 
 #ifdef __cplusplus

@@ -5,11 +5,11 @@
 
 static int wrong = 0;
 
-static void expect(const char *what, scancheck_told told, uint64_t number, uint64_t value, uint64_t next) {
-    if (told.number != number || told.value != value || told.next != next) {
-        printf("%s: %llu %llu %llu, wanted %llu %llu %llu\n", what, (unsigned long long)told.number,
-               (unsigned long long)told.value, (unsigned long long)told.next, (unsigned long long)number,
-               (unsigned long long)value, (unsigned long long)next);
+static void expect(const char *what, scancheck_told told, uint64_t refusal, uint64_t first, uint64_t second) {
+    if (told.refusal != refusal || told.first != first || told.second != second) {
+        printf("%s: %llu %llu %llu, wanted %llu %llu %llu\n", what, (unsigned long long)told.refusal,
+               (unsigned long long)told.first, (unsigned long long)told.second, (unsigned long long)refusal,
+               (unsigned long long)first, (unsigned long long)second);
         wrong++;
     }
 }

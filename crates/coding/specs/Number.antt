@@ -40,7 +40,7 @@ abbrev pub first : List ℕ → Begin
 first [] = none CutShort
 first (a ∷ rest) = pick (ltb a 128) (number a 1) (second (a - 128) rest)
 
--- The number at a place of the bytes s. "A number's fault stands at its first byte", and a missing number where it should begin.
+-- The number at a place of the bytes s. "a number's fault stands at its first byte", and a missing number where it should begin.
 abbrev pub placed : ℕ → Begin → Number
 placed at (number v k) = Value v (at + k)
 placed at (none cause) = Fault cause at

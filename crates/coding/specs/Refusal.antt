@@ -2,7 +2,7 @@
 -- Assumes nothing: these are definitions.
 use Prim.Native.Nat.{ℕ}
 use Rattle.coding.specs.declared.Cause.{Cause}
-use Rattle.coding.specs.declared.Cause.the-variants.{CutShort, NotShortest, TooLarge, LeftOver, NotAllowed, UnknownTag, PastLimit, NoRule, LongTurn, LongRun, NotClosed, BadTrace, ShortBuffer, NameAbsent}
+use Rattle.coding.specs.declared.Cause.the-variants.{CutShort, NotShortest, TooLarge, LeftOver, NotAllowed, NoSuchNode, PastLimit, NoRule, LongTurn, LongRun, NotClosed, BadTrace, ShortBuffer, NameAbsent}
 use Rattle.coding.specs.declared.Number.{Number}
 use Rattle.coding.specs.declared.Number.the-variants.{Value, Fault}
 use Rattle.coding.specs.declared.Told.{Told}
@@ -18,7 +18,7 @@ numberOf LeftOver = 1
 -- "table, inputs or sheet: a value not allowed above"
 numberOf NotAllowed = 2
 -- "requirement: tag unknown or not allowed, atom above 31"
-numberOf UnknownTag = 3
+numberOf NoSuchNode = 3
 -- "node or depth limit passed, at that node's tag"
 numberOf PastLimit = 4
 -- "no rule for the action"
@@ -38,10 +38,10 @@ numberOf NameAbsent = 11
 
 -- An answer in the paper's numbers. "Refusals carry number and place, else nothing": number 0 stands for no refusal, and values follow it.
 abbrev pub accepted : ℕ → ℕ → Told
-accepted value next = record { number = 0; value = value; next = next }
+accepted first second = record { refusal = 0; first = first; second = second }
 
 abbrev pub refusal : Cause → ℕ → Told
-refusal cause place = record { number = numberOf cause; value = place; next = 0 }
+refusal cause place = record { refusal = numberOf cause; first = place; second = 0 }
 
 abbrev pub numberTold : Number → Told
 numberTold (Value v next) = accepted v next

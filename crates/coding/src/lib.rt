@@ -14,7 +14,7 @@ pub enum Cause {
     TooLarge,
     LeftOver,
     NotAllowed,
-    UnknownTag,
+    NoSuchNode,
     PastLimit,
     NoRule,
     LongTurn,
@@ -37,12 +37,12 @@ pub enum Answer {
     Refused(Cause, usize),
 }
 
-// An answer in the paper's numbers, for callers outside: the number of refusal and its place, or 0 and the values that were found.
+// An answer in the paper's numbers, for callers outside: the number of the refusal and its place, or 0 and what was found.
 #[repr(C)]
 pub struct Told {
-    pub number: u64,
-    pub value: u64,
-    pub next: u64,
+    pub refusal: u64,
+    pub first: u64,
+    pub second: u64,
 }
 
 // The paper's number of a cause.
@@ -55,7 +55,7 @@ pub fn number_of(cause: Cause) -> u8
         Cause::TooLarge => 1,
         Cause::LeftOver => 1,
         Cause::NotAllowed => 2,
-        Cause::UnknownTag => 3,
+        Cause::NoSuchNode => 3,
         Cause::PastLimit => 4,
         Cause::NoRule => 5,
         Cause::LongTurn => 6,

@@ -17,13 +17,13 @@ ghost use Rattle.table.specs.Table.{tableGrammar, inputsGrammar};
 ghost use Rattle.sheet.specs.Sheet.{findIn, foundTold};
 ghost use Rattle.interface.specs.Calls.{kindOf, readTold, readLeaves, writeTold, writeLeaves};
 
-fn tell(value: usize, next: usize) -> Told
-    ensures { λ r. ⌜ r ≡ accepted value next ⌝ }
+fn tell(first: usize, second: usize) -> Told
+    ensures { λ r. ⌜ r ≡ accepted first second ⌝ }
 {
     Told {
-        number: 0,
-        value: value as u64,
-        next: next as u64,
+        refusal: 0,
+        first: first as u64,
+        second: second as u64,
     }
 }
 
@@ -31,9 +31,9 @@ fn tell_refusal(cause: Cause, place: usize) -> Told
     ensures { λ r. ⌜ r ≡ refusal cause place ⌝ }
 {
     Told {
-        number: coding::number_of(cause) as u64,
-        value: place as u64,
-        next: 0,
+        refusal: coding::number_of(cause) as u64,
+        first: place as u64,
+        second: 0,
     }
 }
 

@@ -1,4 +1,5 @@
-// Looking things up in the numbers of a table: sources, tests and actions by their place in the coding's order. Past the end every number is 0.
+// Looking things up in the numbers of a table: sources, tests and actions by their place in the coding's order. An answer is what stands at that place, and 0 past
+// the last number: of an output, test, process, state or action that the table does not have it says nothing.
 mod places;
 
 ghost use mathlib.Core.Path.{_≡_};

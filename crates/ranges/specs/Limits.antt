@@ -30,6 +30,6 @@ longestBound = 4095
 abbrev pub mostScans : ℕ
 mostScans = 1365
 
--- "255 err"
+-- "0 stop, 1 upward active, 255 err"
 abbrev pub errState : ℕ
 errState = 255

@@ -24,7 +24,7 @@ atSources sh = pick (eqb (sh .outputs) 0) (Tests sh) (Source sh (sh .outputs))
 unfoldable pub afterSource : Shape → ℕ → Want
 afterSource sh left = pick (leb left 1) (Tests sh) (Source sh (left - 1))
 
--- "count of tests, each as kind, a, b", then the processes
+-- "count of tests (0 to 32), each as kind, a, b", then the processes
 unfoldable pub atTests : Shape → Want
 atTests sh = pick (eqb (sh .tests) 0) (Processes sh) (Kind sh (sh .tests))
 
@@ -49,7 +49,7 @@ withTests sh v = record { inputs = sh .inputs; internals = sh .internals; output
 abbrev pub withProcesses : Shape → ℕ → Shape
 withProcesses sh v = record { inputs = sh .inputs; internals = sh .internals; outputs = sh .outputs; tests = sh .tests; processes = v }
 
--- What the number v leads to where so much is wanted. At most `most` processes are allowed.
+-- What the number v leads to where `want` is wanted. At most `most` processes are allowed.
 abbrev pub stepOf : ℕ → Want → ℕ → Step
 stepOf most Inputs v = allowed (totalOk 0 0 v) (Internals v)
 stepOf most (Internals i) v = allowed (totalOk i 0 v) (Outputs i v)

@@ -49,11 +49,11 @@ yOk sh op v =
     pick (eqb op 2) (isVariable sh v)
     (pick (within 1 op 3) true (eqb v 0))
 
--- "Ops 1 to 4, 6 and 7 use guard and nexts."
+-- "Ops 1 to 4, 6 and 7 use guard and nexts"
 unfoldable pub usesNexts : ℕ → Bool
 usesNexts op = pick (within 1 op 4) true (within 6 op 7)
 
--- "Guard 0 is always true, guard k+1 is test k."
+-- "Guard 0 is always true, guard k+1 is test k"
 unfoldable pub guardOk : Shape → ℕ → ℕ → Bool
 guardOk sh op v = pick (usesNexts op) (leb v (sh .tests)) (eqb v 0)
 

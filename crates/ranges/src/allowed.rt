@@ -1,12 +1,10 @@
 // Which value each number of a table may have, once those before it are known.
+use crate::LONGEST_BOUND;
+use crate::MOST_VARIABLES;
 use crate::Shape;
 use crate::Spot;
 ghost use mathlib.Core.Path.{_≡_};
 ghost use Rattle.ranges.specs.Values.{within, totalOk, isInternal, isVariable, testAOk, opOk, xOk, yOk, usesNexts, guardOk, usesElse, nextOk};
-
-const MOST_VARIABLES: u32 = 32;
-
-const LONGEST_BOUND: u16 = 4095;
 
 pub fn between(lo: u16, v: u16, hi: u16) -> bool
     ensures { λ r. ⌜ r ≡ within lo v hi ⌝ }
@@ -24,7 +22,7 @@ pub fn between(lo: u16, v: u16, hi: u16) -> bool
 pub fn total_ok(a: u16, b: u16, c: u16) -> bool
     ensures { λ r. ⌜ r ≡ totalOk a b c ⌝ }
 {
-    a as u32 + b as u32 + c as u32 <= MOST_VARIABLES
+    a as u32 + b as u32 + c as u32 <= MOST_VARIABLES as u32
 }
 
 pub fn is_internal(shape: Shape, v: u16) -> bool

@@ -4,6 +4,8 @@ pub mod allowed;
 ghost use mathlib.Core.Path.{_≡_};
 ghost use Rattle.ranges.specs.Order.{allowed, atSources, afterSource, atTests, afterTest, afterAction, stepOf};
 
+pub const MOST_VARIABLES: u16 = 32;
+
 pub const MOST_PROCESSES: u16 = 8;
 
 pub const MOST_TESTS: u16 = 32;
@@ -13,6 +15,10 @@ pub const MOST_STATES: u16 = 8;
 pub const MOST_ACTIONS: u16 = 16;
 
 pub const MOST_SCANS: u16 = 1365;
+
+pub const LONGEST_BOUND: u16 = 4095;
+
+pub const ERR_STATE: u16 = 255;
 
 // The sizes of a table that are known so far.
 pub struct Shape {
@@ -208,7 +214,7 @@ fn reading_step(left: usize, v: u16) -> Step
     Step::More(Want::Reading(fewer))
 }
 
-// What the number v leads to where so much is wanted, if a table may have `most` processes.
+// What the number v leads to where `want` is wanted, if a table may have `most` processes.
 pub fn advance(most: u16, want: Want, v: u16) -> Step
     ensures { λ r. ⌜ r ≡ stepOf most want v ⌝ }
 {

@@ -5,7 +5,7 @@ use mathlib.Core.Path.{_≡_, refl}
 use mathlib.Core.List.{List, [], _∷_, _++_, map}
 use lib.ListN.{take, replicate}
 use Rattle.coding.specs.Code.{codeAt}
-use Rattle.coding.specs.declared.Cause.the-variants.{CutShort, NotShortest, TooLarge, LeftOver, UnknownTag, PastLimit}
+use Rattle.coding.specs.declared.Cause.the-variants.{CutShort, NotShortest, TooLarge, LeftOver, NoSuchNode, PastLimit}
 use Rattle.requirement.specs.Requirement.{nodesOf, depthOf}
 use Rattle.requirement.specs.Tags.{tagOf}
 use Rattle.requirement.specs.Limits.{tagIn}
@@ -47,24 +47,24 @@ cases =
     ∷ case Untranslated (1 ∷ 128 ∷ 0 ∷ []) (Refused NotShortest 1)
     ∷ case Untranslated (1 ∷ 128 ∷ 128 ∷ 4 ∷ []) (Refused TooLarge 1)
     -- a tag that is unknown: 300, 6, and 12 in a translated requirement; an atom above 31
-    ∷ case Untranslated (172 ∷ 2 ∷ []) (Refused UnknownTag 0)
-    ∷ case Untranslated (6 ∷ []) (Refused UnknownTag 0)
-    ∷ case Translated (12 ∷ 3 ∷ []) (Refused UnknownTag 0)
-    ∷ case Untranslated (0 ∷ 32 ∷ []) (Refused UnknownTag 1)
+    ∷ case Untranslated (172 ∷ 2 ∷ []) (Refused NoSuchNode 0)
+    ∷ case Untranslated (6 ∷ []) (Refused NoSuchNode 0)
+    ∷ case Translated (12 ∷ 3 ∷ []) (Refused NoSuchNode 0)
+    ∷ case Untranslated (0 ∷ 32 ∷ []) (Refused NoSuchNode 1)
     -- bytes left over, whatever they are
     ∷ case Untranslated (3 ∷ 3 ∷ []) (Refused LeftOver 1)
     ∷ case Untranslated (3 ∷ 128 ∷ []) (Refused LeftOver 1)
     -- depth 16 and 17; past the limit an unknown tag is 3 all the same, and an atom's number is not looked at
     ∷ case Untranslated (nots 15 (0 ∷ 0 ∷ [])) (Whole 16 16)
     ∷ case Untranslated (nots 16 (0 ∷ 0 ∷ [])) (Refused PastLimit 16)
-    ∷ case Untranslated (nots 16 (6 ∷ [])) (Refused UnknownTag 16)
+    ∷ case Untranslated (nots 16 (6 ∷ [])) (Refused NoSuchNode 16)
     ∷ case Untranslated (nots 16 (0 ∷ 32 ∷ [])) (Refused PastLimit 16)
     -- 64 nodes and 65
     ∷ case Untranslated (nots 1 (bush 5)) (Whole 64 7)
     ∷ case Untranslated (nots 2 (bush 5)) (Refused PastLimit 64)
     -- the 65th node's tag is missing, or unknown
     ∷ case Untranslated (take 64 (nots 2 (bush 5))) (Refused CutShort 64)
-    ∷ case Untranslated (take 64 (nots 2 (bush 5)) ++ (6 ∷ [])) (Refused UnknownTag 64)
+    ∷ case Untranslated (take 64 (nots 2 (bush 5)) ++ (6 ∷ [])) (Refused NoSuchNode 64)
     -- translated: depth 76 and 77, 704 nodes and more
     ∷ case Translated (nots 75 (3 ∷ [])) (Whole 76 76)
     ∷ case Translated (nots 76 (3 ∷ [])) (Refused PastLimit 76)

@@ -6,7 +6,7 @@ use mathlib.Core.List.{List}
 use borrow.Author.Tests.{lt-ltb, le-ltb}
 use Rattle.coding.specs.Number.{numberAt}
 use Rattle.coding.specs.declared.Cause.{Cause}
-use Rattle.coding.specs.declared.Cause.the-variants.{UnknownTag}
+use Rattle.coding.specs.declared.Cause.the-variants.{NoSuchNode}
 use Rattle.coding.specs.declared.Number.the-variants.{Value, Fault}
 use Rattle.requirement.specs.Limits.{tagIn}
 use Rattle.requirement.specs.Reading.{nodeAt, nodeBy}
@@ -32,7 +32,7 @@ module _ (kind : Kind) (s : List ℕ) (at : ℕ) where
       no-number cause place h = rw (← by-tag Atom g, ← h)
 
       module _ (k after : ℕ) (h : Value k after ≡ numberAt s next) where
-        pub big-number : 31 < k → NoNode UnknownTag next ≡ nodeAt kind s at
+        pub big-number : 31 < k → NoNode NoSuchNode next ≡ nodeAt kind s at
         big-number l = rw (← by-tag Atom g, ← h, lt-ltb _ _ l)
 
         pub small-number : k ≤ 31 → Found (AtomNode k) after ≡ nodeAt kind s at

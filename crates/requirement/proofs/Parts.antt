@@ -11,7 +11,7 @@ use borrow.Author.Tests.{lt-ltb, le-ltb, ltb-true, ltb-false}
 use Rattle.coding.specs.Number.{pick}
 use Rattle.coding.specs.Code.{Code, item, end, broken, sourceAt, sourceSize, sourceNumber}
 use Rattle.coding.specs.declared.Cause.{Cause}
-use Rattle.coding.specs.declared.Cause.the-variants.{CutShort, LeftOver, UnknownTag}
+use Rattle.coding.specs.declared.Cause.the-variants.{CutShort, LeftOver, NoSuchNode}
 use Rattle.coding.specs.declared.Number.{Number}
 use Rattle.coding.specs.declared.Number.the-variants.{Value, Fault}
 use Rattle.coding.proofs.Source.{Turn, turn}
@@ -86,7 +86,7 @@ module _ (fromBytes : Bool) (s xs : List ℕ) (at left spare : ℕ) where
   atom-none cause q e = ⊎-elim (λ o. rw (o .1, o .0)) (λ o. rw o) (none-there fromBytes s xs at cause q e)
 
   module _ (v next : ℕ) (e : Value v next ≡ sourceNumber fromBytes s xs at) where
-    pub atom-big : 31 < v → stopped UnknownTag at ≡ summed (spare + 1) (atomOf left (sourceAt fromBytes s xs at))
+    pub atom-big : 31 < v → stopped NoSuchNode at ≡ summed (spare + 1) (atomOf left (sourceAt fromBytes s xs at))
     unfolding atomOf
     atom-big h = rw (next-there fromBytes s xs at v next e .0, lt-ltb _ _ h)
 
@@ -109,7 +109,7 @@ module _ (kind : Kind) (depth left : ℕ) (fromBytes : Bool) (s xs : List ℕ) (
           treeOf kind depth left (sourceAt fromBytes s xs at) ≡ byTag (λ n d. treeOf kind (depth - 1) n d) at x (left - 1) (sourceAt fromBytes s xs next)
       by-tag x y = rw (next-there fromBytes s xs at v next e .0, ← y, f) (opened kind depth left at v (sourceAt fromBytes s xs next) h g)
 
-      pub at-unknown : t ≡ Unknown → stopped UnknownTag at ≡ summed depth (treeOf kind depth left (sourceAt fromBytes s xs at))
+      pub at-unknown : t ≡ Unknown → stopped NoSuchNode at ≡ summed depth (treeOf kind depth left (sourceAt fromBytes s xs at))
       at-unknown y = rw (by-tag Unknown y)
 
       pub at-mark : (m : Phase) → t ≡ Mark m → sum (left - 1) (depth - 1) (sourceAt fromBytes s xs next) ≡ summed depth (treeOf kind depth left (sourceAt fromBytes s xs at))

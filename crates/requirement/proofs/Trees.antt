@@ -11,7 +11,7 @@ use borrow.Author.Tests.{eq-eqb, ne-eqb, eqb-false, ltb-false}
 use Rattle.coding.specs.Number.{pick}
 use Rattle.coding.specs.Code.{Code, item, end, broken, values}
 use Rattle.coding.specs.declared.Cause.{Cause}
-use Rattle.coding.specs.declared.Cause.the-variants.{CutShort, UnknownTag}
+use Rattle.coding.specs.declared.Cause.the-variants.{CutShort, NoSuchNode}
 use Rattle.coding.proofs.Trips.{Clean}
 use Rattle.requirement.specs.Requirement.{Requirement, atom, one, two, nodesOf, depthOf}
 use Rattle.requirement.specs.Tags.{codeOf, oneNo, twoNo}
@@ -59,7 +59,7 @@ Tells kind depth left c (refused cause place) = Unit {0}
 
 module _ (kind : Kind) (depth left p v : ℕ) (c : Code) (h : left ≡ 0 → ⊥) where
   tells-atom : (q w : ℕ) (e : Code) (b : Bool) → ltb 31 w ≡ b → v ≡ 0 → c ≡ item q w e →
-      Tells kind (suc depth) left (item p v c) (pick b (refused UnknownTag q) (got (atom w) (left - 1) e))
+      Tells kind (suc depth) left (item p v c) (pick b (refused NoSuchNode q) (got (atom w) (left - 1) e))
   unfolding codeOf Allowed nodesOf depthOf
   tells-atom q w e true t n i = tt
   tells-atom q w e false t n i = record {

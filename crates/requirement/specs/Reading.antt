@@ -1,5 +1,5 @@
 -- What a requirement's code is read as. Document 01, Numbers of refusal: "Codes are read left to right and the first fault counts,
--- at one byte in the order 1, 3, 4; then left-over bytes."
+-- at one byte in the order 1, 3, 4; then left-over bytes"
 -- Assumes nothing: these are definitions.
 use Prim.Native.Nat.{ℕ, zero, suc, _-_}
 use mathlib.Core.List.{List}
@@ -10,7 +10,7 @@ use Rattle.coding.specs.Code.{Code, item, end, broken, values}
 use Rattle.coding.specs.Refusal.{accepted, refusal}
 use Rattle.coding.specs.declared.Told.{Told}
 use Rattle.coding.specs.declared.Cause.{Cause}
-use Rattle.coding.specs.declared.Cause.the-variants.{CutShort, LeftOver, UnknownTag, PastLimit}
+use Rattle.coding.specs.declared.Cause.the-variants.{CutShort, LeftOver, NoSuchNode, PastLimit}
 use Rattle.coding.specs.declared.Number.{Number}
 use Rattle.coding.specs.declared.Number.the-variants.{Value, Fault}
 use Rattle.coding.specs.declared.Answer.{Answer}
@@ -40,13 +40,13 @@ andThen (refused cause place) k = refused cause place
 
 -- "0 atom and its number (0 to 31)"; "atom above 31" is refusal 3 at that number.
 unfoldable pub atomOf : ℕ → Code → Got
-atomOf left (item p v c) = pick (ltb highestAtom v) (refused UnknownTag p) (got (atom v) left c)
+atomOf left (item p v c) = pick (ltb highestAtom v) (refused NoSuchNode p) (got (atom v) left c)
 atomOf left (end p) = refused CutShort p
 atomOf left (broken cause p) = refused cause p
 
 -- Past a limit: an unknown tag is 3 all the same, any other is 4.
 abbrev pub pastOf : Tag → Cause
-pastOf Unknown = UnknownTag
+pastOf Unknown = NoSuchNode
 pastOf Atom = PastLimit
 pastOf (Mark p) = PastLimit
 pastOf (OverOne o) = PastLimit
@@ -54,13 +54,13 @@ pastOf (OverTwo o) = PastLimit
 
 -- A node within the limits, by its tag; its operands, one level less deep, are read by `sub`.
 abbrev pub byTag : (ℕ → Code → Got) → ℕ → Tag → ℕ → Code → Got
-byTag sub p Unknown left c = refused UnknownTag p
+byTag sub p Unknown left c = refused NoSuchNode p
 byTag sub p Atom left c = atomOf left c
 byTag sub p (Mark m) left c = got (mark m) left c
 byTag sub p (OverOne o) left c = andThen (sub left c) (λ f n d. got (one o f) n d)
 byTag sub p (OverTwo o) left c = andThen (sub left c) (λ f n d. andThen (sub n d) (λ g m e. got (two o f g) m e))
 
--- A requirement at most `depth` deep, where `left` nodes may still come. "Node or depth limit passed, at that node's tag."
+-- A requirement at most `depth` deep, where `left` nodes may still come. "node or depth limit passed, at that node's tag"
 unfoldable pub treeOf : Kind → ℕ → ℕ → Code → Got
 treeOf kind zero left (item p v c) = refused (pastOf (tagIn kind v)) p
 treeOf kind zero left (end p) = refused CutShort p
@@ -102,11 +102,11 @@ grammar kind c = counted (length (values c)) (checked kind c)
 
 -- One node at a place of the bytes s, with the place after it.
 abbrev pub atomAt : ℕ → Number → NodeRead
-atomAt at (Value v next) = pick (ltb highestAtom v) (NoNode UnknownTag at) (Found (AtomNode v) next)
+atomAt at (Value v next) = pick (ltb highestAtom v) (NoNode NoSuchNode at) (Found (AtomNode v) next)
 atomAt at (Fault cause place) = NoNode cause place
 
 abbrev pub nodeBy : List ℕ → ℕ → ℕ → Tag → NodeRead
-nodeBy s at next Unknown = NoNode UnknownTag at
+nodeBy s at next Unknown = NoNode NoSuchNode at
 nodeBy s at next Atom = atomAt next (numberAt s next)
 nodeBy s at next (Mark p) = Found (MarkNode p) next
 nodeBy s at next (OverOne o) = Found (OneNode o) next

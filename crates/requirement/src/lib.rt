@@ -11,6 +11,8 @@ ghost use Rattle.requirement.specs.Tags.{tagOf};
 ghost use Rattle.requirement.specs.Limits.{nodeLimit, depthLimit, highestTag, tagIn};
 ghost use Rattle.requirement.specs.Reading.{nodeAt, checked, counted, grammar};
 
+pub const HIGHEST_ATOM: u16 = 31;
+
 // The phases of a scan, which are the marks too.
 pub enum Phase {
     Input,
@@ -155,15 +157,15 @@ pub fn read_node(kind: Kind, code: &[u8], at: usize) -> NodeRead
     match coding::read_number(code, at) {
         Number::Fault(cause, place) => NodeRead::Fault(cause, place),
         Number::Value(v, next) => match tag_in(kind, v) {
-            Tag::Unknown => NodeRead::Fault(Cause::UnknownTag, at),
+            Tag::Unknown => NodeRead::Fault(Cause::NoSuchNode, at),
             Tag::Mark(mark) => NodeRead::Found(Node::Mark(mark), next),
             Tag::OverOne(operator) => NodeRead::Found(Node::OverOne(operator), next),
             Tag::OverTwo(operator) => NodeRead::Found(Node::OverTwo(operator), next),
             Tag::Atom => match coding::read_number(code, next) {
                 Number::Fault(cause, place) => NodeRead::Fault(cause, place),
                 Number::Value(k, after) => {
-                    if 31 < k {
-                        return NodeRead::Fault(Cause::UnknownTag, next);
+                    if HIGHEST_ATOM < k {
+                        return NodeRead::Fault(Cause::NoSuchNode, next);
                     }
                     NodeRead::Found(Node::Atom(k), after)
                 }

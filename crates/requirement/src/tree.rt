@@ -21,7 +21,7 @@ fn past(tag: Tag) -> Cause
     ensures { λ r. ⌜ r ≡ pastOf tag ⌝ }
 {
     match tag {
-        Tag::Unknown => Cause::UnknownTag,
+        Tag::Unknown => Cause::NoSuchNode,
         Tag::Atom => Cause::PastLimit,
         Tag::Mark(_) => Cause::PastLimit,
         Tag::OverOne(_) => Cause::PastLimit,
@@ -29,7 +29,7 @@ fn past(tag: Tag) -> Cause
     }
 }
 
-fn less(a: u16, b: u16) -> u16
+fn lesser(a: u16, b: u16) -> u16
     ensures { λ r. ⌜ r ≡ least a b ⌝ }
 {
     if a < b {
@@ -46,8 +46,8 @@ fn atom(spare: u16, left: u16, from_bytes: bool, code: &[u8], numbers: &[u16], a
     match coding::number_at(from_bytes, code, numbers, at) {
         Number::Fault(cause, place) => Part::Refused(cause, place),
         Number::Value(v, next) => {
-            if 31 < v {
-                return Part::Refused(Cause::UnknownTag, at);
+            if crate::HIGHEST_ATOM < v {
+                return Part::Refused(Cause::NoSuchNode, at);
             }
             Part::Read(next, left, spare)
         }
@@ -60,7 +60,7 @@ fn least_of(spare: u16, part: Part) -> Part
 {
     match part {
         Part::Refused(cause, place) => Part::Refused(cause, place),
-        Part::Read(at, left, other) => Part::Read(at, left, less(spare, other)),
+        Part::Read(at, left, other) => Part::Read(at, left, lesser(spare, other)),
     }
 }
 
@@ -90,7 +90,7 @@ pub fn tree(
             let fewer = left - 1;
             let below = depth - 1;
             match tag {
-                Tag::Unknown => Part::Refused(Cause::UnknownTag, at),
+                Tag::Unknown => Part::Refused(Cause::NoSuchNode, at),
                 Tag::Mark(_) => Part::Read(next, fewer, below),
                 Tag::Atom => atom(below, fewer, from_bytes, code, numbers, next),
                 Tag::OverOne(_) => tree(kind, below, fewer, from_bytes, code, numbers, next),

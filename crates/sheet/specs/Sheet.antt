@@ -39,7 +39,7 @@ eqbs (x ∷ xs) (y ∷ ys) = pick (eqb x y) (eqbs xs ys) false
 abbrev pub part : List ℕ → ℕ → ℕ → List ℕ
 part s begin end = take (end - begin) (drop begin s)
 
--- A text after its length. "A text or block cut short [stands] at its length's first byte."
+-- A text after its length: "a text or block cut short at its length's first byte".
 abbrev pub textOf : List ℕ → ℕ → Number → Text
 textOf s at (Value n begin) = pick (leb (begin + n) (length s)) (Part begin (begin + n)) (NoText CutShort at)
 textOf s at (Fault cause place) = NoText cause place
@@ -55,7 +55,7 @@ nameOf s at (Fault cause place) = NoText cause place
 unfoldable pub nameAt : List ℕ → ℕ → Text
 nameAt s at = nameOf s at (numberAt s at)
 
--- "name length, name, body length, body". "A body is not read until asked for": any bytes will do.
+-- "name length (1 to 16), name, body length, body". "A body is not read until asked for": any bytes will do.
 abbrev pub bodyAfter : ℕ → ℕ → Text → Entry
 bodyAfter name nameEnd (Part body bodyEnd) = Named name nameEnd body bodyEnd
 bodyAfter name nameEnd (NoText cause place) = Bad cause place
@@ -89,7 +89,7 @@ abbrev pub sought : Answer → Found → Found
 sought (Count n) found = found
 sought (Refused cause place) found = NotFound cause place
 
--- "Asked for a name, it answers with that body."
+-- "Asked for a name, it answers with that body".
 abbrev pub findAfter : List ℕ → List ℕ → Number → Found
 findAfter s name (Value count start) =
     pick (ltb mostEntries count) (NotFound NotAllowed 0)

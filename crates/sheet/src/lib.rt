@@ -8,14 +8,18 @@ ghost use Prim.Native.Nat.{_+_, _≤_};
 ghost use lib.ListN.{length};
 ghost use Rattle.sheet.specs.Sheet.{textAt, nameAt, entryAt, checkFrom, seekFrom, findIn, bodyOf, startOf, eqbs, part};
 
+const MOST_ENTRIES: u16 = 32;
+
+const LONGEST_NAME: u16 = 16;
+
 // A text of the sheet: where it begins and ends, or why there is none and where.
-pub enum Text {
+enum Text {
     Part(usize, usize),
     Fault(Cause, usize),
 }
 
 // An entry of the sheet: where its name begins and ends, where its body begins and ends, or a refusal.
-pub enum Entry {
+enum Entry {
     Named(usize, usize, usize, usize),
     Bad(Cause, usize),
 }
@@ -27,7 +31,7 @@ pub enum Found {
 }
 
 // The text whose length stands at `at`.
-pub fn text_at(sheet: &[u8], at: usize) -> Text
+fn text_at(sheet: &[u8], at: usize) -> Text
     ensures { λ r. ⌜ r ≡ textAt (now (sheet .entry)) at ⌝ }
 {
     match coding::read_number(sheet, at) {
@@ -44,7 +48,7 @@ pub fn text_at(sheet: &[u8], at: usize) -> Text
 }
 
 // The name whose length stands at `at`: the length is looked at before the text.
-pub fn name_at(sheet: &[u8], at: usize) -> Text
+fn name_at(sheet: &[u8], at: usize) -> Text
     ensures { λ r. ⌜ r ≡ nameAt (now (sheet .entry)) at ⌝ }
 {
     match coding::read_number(sheet, at) {
@@ -53,7 +57,7 @@ pub fn name_at(sheet: &[u8], at: usize) -> Text
             if n == 0 {
                 return Text::Fault(Cause::NotAllowed, at);
             }
-            if 16 < n {
+            if LONGEST_NAME < n {
                 return Text::Fault(Cause::NotAllowed, at);
             }
             text_at(sheet, at)
@@ -62,7 +66,7 @@ pub fn name_at(sheet: &[u8], at: usize) -> Text
 }
 
 // The entry whose name's length stands at `at`.
-pub fn entry_at(sheet: &[u8], at: usize) -> Entry
+fn entry_at(sheet: &[u8], at: usize) -> Entry
     ensures { λ r. ⌜ r ≡ entryAt (now (sheet .entry)) at ⌝ }
 {
     match name_at(sheet, at) {
@@ -75,7 +79,7 @@ pub fn entry_at(sheet: &[u8], at: usize) -> Entry
 }
 
 // So many entries from `at` on and nothing after them, or the first fault.
-pub fn check_entries(sheet: &[u8], count: u16, at: usize) -> Answer
+fn check_entries(sheet: &[u8], count: u16, at: usize) -> Answer
     ensures { λ r. ⌜ r ≡ checkFrom (now (sheet .entry)) count count at ⌝ }
 {
     let mut next = at;
@@ -98,7 +102,7 @@ pub fn check_entries(sheet: &[u8], count: u16, at: usize) -> Answer
 }
 
 // Whether two texts are the same.
-pub fn same(a: &[u8], b: &[u8]) -> bool
+fn same(a: &[u8], b: &[u8]) -> bool
     ensures { λ r. ⌜ r ≡ eqbs (now (a .entry)) (now (b .entry)) ⌝ }
 {
     check::same(a, b)
@@ -113,7 +117,7 @@ fn is_named(sheet: &[u8], begin: usize, end: usize, name: &[u8]) -> bool
 }
 
 // The first of so many entries from `at` on that has the name.
-pub fn seek(sheet: &[u8], name: &[u8], count: u16, at: usize) -> Found
+fn seek(sheet: &[u8], name: &[u8], count: u16, at: usize) -> Found
     ensures { λ r. ⌜ r ≡ seekFrom (now (sheet .entry)) (now (name .entry)) count at ⌝ }
 {
     let mut next = at;
@@ -142,7 +146,7 @@ pub fn find(sheet: &[u8], name: &[u8]) -> Found
     match coding::read_number(sheet, 0) {
         Number::Fault(cause, place) => Found::Refused(cause, place),
         Number::Value(count, start) => {
-            if 32 < count {
+            if MOST_ENTRIES < count {
                 return Found::Refused(Cause::NotAllowed, 0);
             }
             match check_entries(sheet, count, start) {

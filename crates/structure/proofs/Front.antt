@@ -15,7 +15,7 @@ use Rattle.ranges.specs.declared.Shape.{Shape}
 use Rattle.ranges.specs.declared.Want.{Want}
 use Rattle.ranges.specs.declared.Want.the-variants.{Inputs, Internals, Outputs, Source, Tests, Kind, TestA, TestB, Processes}
 use Rattle.ranges.specs.declared.Step.the-variants.{More}
-use Rattle.table.specs.declared.tests.Test.the-variants.{Fine}
+use Rattle.table.specs.declared.tests.Ruling.the-variants.{Fine}
 use Rattle.table.specs.Table.{roleOf, noted, testSays, fineIf, stateOk, noCounts}
 use Rattle.lookups.specs.declared.TestRow.{TestRow}
 use Rattle.lookups.specs.Structure.{Table, testNumbers, inOrder, numbersOf}

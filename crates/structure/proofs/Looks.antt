@@ -13,8 +13,8 @@ use Rattle.ranges.specs.Order.{stepOf}
 use Rattle.ranges.specs.declared.Want.{Want}
 use Rattle.ranges.specs.declared.Step.{Step}
 use Rattle.ranges.specs.declared.Step.the-variants.{More, Last, NotAllowed}
-use Rattle.table.specs.declared.tests.Test.{Test}
-use Rattle.table.specs.declared.tests.Test.the-variants.{Fine, Wrong, Behind}
+use Rattle.table.specs.declared.tests.Ruling.{Ruling}
+use Rattle.table.specs.declared.tests.Ruling.the-variants.{Fine, Wrong, Behind}
 use Rattle.table.specs.Table.{roleOf, noted, testSays, noCounts, tableStart, ended, check, countsFrom, testsFrom, tested, tableGrammar}
 use Rattle.table.proofs.Steps.{checks, counts, tests, shows}
 use Rattle.table.proofs.Fair.{fair-table}
@@ -31,7 +31,7 @@ Ends most final kept want [] = ⊥
 Ends most final kept want (v ∷ xs) = Then (λ next. Ends most final (noted (roleOf want) v kept) next xs) ((xs ≡ []) × (kept ≡ final)) (stepOf most want v)
 
 -- What holds by what the second look says of a number.
-abbrev pub Unless : Type 0 → Type 0 → Test → Type 0
+abbrev pub Unless : Type 0 → Type 0 → Ruling → Type 0
 Unless fine behind Fine = fine
 Unless fine behind Wrong = ⊥
 Unless fine behind Behind = behind

@@ -1,4 +1,5 @@
 -- Document 01, Coding ("Table, in this order ..") and Actions: which tables are allowed, said of a table as it is made up.
+-- That a number is "0 to 65,535" is said by the coding, and not again here.
 -- Assumes nothing: these are definitions.
 use Prim.Native.Nat.{ℕ, suc, _+_, _-_, _≤_, _<_}
 use mathlib.Core.Path.{_≡_}

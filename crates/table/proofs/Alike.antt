@@ -11,7 +11,7 @@ use Rattle.coding.proofs.Trips.{Clean}
 use Rattle.ranges.specs.Order.{stepOf}
 use Rattle.ranges.specs.declared.Want.{Want}
 use Rattle.ranges.specs.declared.Step.the-variants.{More, Last, NotAllowed as Bad}
-use Rattle.table.specs.declared.tests.Test.the-variants.{Fine, Wrong, Behind}
+use Rattle.table.specs.declared.tests.Ruling.the-variants.{Fine, Wrong, Behind}
 use Rattle.table.specs.Table.{roleOf, noted, testSays, ended, check, countsFrom, testsFrom}
 use Rattle.table.proofs.Steps.{checks, counts, tests, shows}
 

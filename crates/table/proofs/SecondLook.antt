@@ -18,8 +18,8 @@ use Rattle.ranges.specs.declared.Want.{Want}
 use Rattle.ranges.specs.declared.Step.{Step}
 use Rattle.ranges.specs.declared.Step.the-variants.{More}
 use Rattle.table.specs.declared.Role.{Role}
-use Rattle.table.specs.declared.tests.Test.{Test}
-use Rattle.table.specs.declared.tests.Test.the-variants.{Fine}
+use Rattle.table.specs.declared.tests.Ruling.{Ruling}
+use Rattle.table.specs.declared.tests.Ruling.the-variants.{Fine}
 use Rattle.table.specs.Table.{roleOf, stateOk, testSays, testsFrom, tableStart}
 use Rattle.table.proofs.Steps.{tests, shows, tests-item, turned, stopped}
 
@@ -50,7 +50,7 @@ module _ {most : ℕ} {counts : List ℕ} {accepted : Answer} {fromBytes : Bool}
     pub passes : (at < next) × (next ≤ sourceSize fromBytes s xs)
     passes = let u = turned fromBytes s xs at v next e in (u .1, u .2)
 
-    module _ (role : Role) (k : role ≡ roleOf want) (says : Test) (f : says ≡ testSays counts role v) where
+    module _ (role : Role) (k : role ≡ roleOf want) (says : Ruling) (f : says ≡ testSays counts role v) where
       -- on every way, by what is said of the number
       pub says-so : (t : Step) → t ≡ stepOf most want v →
           shows (tests most counts accepted (sourceAt fromBytes s xs next) t) at accepted says

@@ -15,8 +15,8 @@ use Rattle.ranges.specs.Order.{stepOf}
 use Rattle.ranges.specs.declared.Want.{Want}
 use Rattle.ranges.specs.declared.Step.{Step}
 use Rattle.ranges.specs.declared.Step.the-variants.{More, Last, NotAllowed as Bad}
-use Rattle.table.specs.declared.tests.Test.{Test}
-use Rattle.table.specs.declared.tests.Test.the-variants.{Fine, Wrong, Behind}
+use Rattle.table.specs.declared.tests.Ruling.{Ruling}
+use Rattle.table.specs.declared.tests.Ruling.the-variants.{Fine, Wrong, Behind}
 use Rattle.table.specs.Table.{roleOf, noted, testSays, ended, check, countsFrom, testsFrom}
 
 -- what a row says whose first number, at place p, leads to this step; and of a test, by what is said of it
@@ -29,7 +29,7 @@ counts most before after c t = elim t [ More to ↦ countsFrom most to after c |
 abbrev pub tests : ℕ → List ℕ → Answer → Code → Step → Answer
 tests most kept accepted c t = elim t [ More to ↦ testsFrom most kept to c accepted | Last ↦ accepted | Bad ↦ accepted ]
 
-abbrev pub shows : Answer → ℕ → Answer → Test → Answer
+abbrev pub shows : Answer → ℕ → Answer → Ruling → Answer
 shows fine p accepted says = elim says [ Fine ↦ fine | Wrong ↦ Refused NotAllowed p | Behind ↦ accepted ]
 
 module _ (most : ℕ) (want : Want) (p v : ℕ) (c : Code) (t : Step) (e : t ≡ stepOf most want v) where
@@ -41,7 +41,7 @@ module _ (most : ℕ) (want : Want) (p v : ℕ) (c : Code) (t : Step) (e : t ≡
   unfolding countsFrom
   counts-item kept = rw (countsFrom, ← e)
 
-  pub tests-item : (kept : List ℕ) (accepted : Answer) (says : Test) → says ≡ testSays kept (roleOf want) v →
+  pub tests-item : (kept : List ℕ) (accepted : Answer) (says : Ruling) → says ≡ testSays kept (roleOf want) v →
       shows (tests most kept accepted c t) p accepted says ≡ testsFrom most kept want (item p v c) accepted
   unfolding testsFrom
   tests-item kept accepted Fine f = rw (testsFrom, ← f, ← e)

@@ -18,8 +18,8 @@ use Rattle.ranges.specs.declared.Want.{Want}
 use Rattle.ranges.specs.declared.Want.the-variants.{Inputs, Internals, Outputs, Source, Tests, Kind, TestA, TestB, Processes, States, Actions, Op, X, Y, Guard, NextIf, NextElse, Scans, Return, Reading}
 use Rattle.table.specs.declared.Role.{Role}
 use Rattle.table.specs.declared.Role.the-variants.{ProcessCount, StateCount, OfTestA, OfTestB, Other}
-use Rattle.table.specs.declared.tests.Test.{Test}
-use Rattle.table.specs.declared.tests.Test.the-variants.{Fine, Wrong, Behind}
+use Rattle.table.specs.declared.tests.Ruling.{Ruling}
+use Rattle.table.specs.declared.tests.Ruling.the-variants.{Fine, Wrong, Behind}
 use Rattle.ranges.specs.declared.Step.{Step}
 use Rattle.ranges.specs.declared.Step.the-variants.{More, Last, NotAllowed as Bad}
 
@@ -81,11 +81,11 @@ countsFrom most want counts (broken cause p) = counts
 unfoldable pub stateOk : ℕ → ℕ → Bool
 stateOk states b = pick (eqb b errState) true (leb b states)
 
-abbrev pub fineIf : Bool → Test
+abbrev pub fineIf : Bool → Ruling
 fineIf ok = pick ok Fine Wrong
 
 -- "then kind 2's a (1 to the process count) and b": the tests stand before the processes.
-abbrev pub testSays : List ℕ → Role → ℕ → Test
+abbrev pub testSays : List ℕ → Role → ℕ → Ruling
 testSays counts (OfTestA kind) v = pick (eqb kind 2) (fineIf (within 1 v (getD counts 0 0))) Fine
 testSays counts (OfTestB kind a) v = pick (eqb kind 2) (fineIf (stateOk (getD counts a 0) v)) Fine
 testSays counts ProcessCount v = Behind

@@ -13,6 +13,9 @@ ghost use Rattle.coding.specs.Room.{readBy, writeBy, stored};
 ghost use Rattle.ranges.specs.Limits.{mostProcesses};
 ghost use Rattle.table.specs.Table.{roleOf, check, countsFrom, noted, noCounts, endedAt, tableGrammar, inputsGrammar};
 
+// Room for the count of processes and the states of at most 64.
+const COUNTS: usize = 65;
+
 // What a number that is wanted is to the second look at the tests.
 enum Role {
     // how many processes there are
@@ -28,7 +31,7 @@ enum Role {
 // What the first look at a source finds: how many numbers or the first fault, and beside it the counts of processes and states.
 struct Seen {
     answer: Answer,
-    counts: [u16; 65],
+    counts: [u16; COUNTS],
 }
 
 fn role_of(want: Want) -> Role
@@ -79,7 +82,7 @@ fn look(most: u16, first: Want, from_bytes: bool, code: &[u8], numbers: &[u16]) 
         × (r .counts ≡ countsFrom most first noCounts (sourceAt «from_bytes» (now (code .entry)) (now (numbers .entry)) 0)) ⌝ }
 {
     let size = coding::size_at(from_bytes, code, numbers);
-    let mut counts = [0u16; 65];
+    let mut counts = [0u16; COUNTS];
     let mut want = first;
     let mut at: usize = 0;
     let mut n: usize = 0;
@@ -142,7 +145,7 @@ fn check_table(most: u16, from_bytes: bool, code: &[u8], numbers: &[u16]) -> Ans
 fn check_inputs(inputs: u16, from_bytes: bool, code: &[u8], numbers: &[u16]) -> Answer
     ensures { λ r. ⌜ r ≡ inputsGrammar inputs (sourceAt «from_bytes» (now (code .entry)) (now (numbers .entry)) 0) ⌝ }
 {
-    if 32 < inputs {
+    if ranges::MOST_VARIABLES < inputs {
         return Answer::Refused(Cause::NotAllowed, 0);
     }
     let found = look(0, Want::Scans(inputs), from_bytes, code, numbers);

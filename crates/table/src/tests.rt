@@ -11,26 +11,26 @@ ghost use Rattle.coding.specs.Code.{sourceAt};
 ghost use Rattle.table.specs.Table.{tableStart, stateOk, fineIf, testSays, testsFrom};
 
 // What the second look says of a number: fine, wrong, or that all the tests are behind.
-pub enum Test {
+pub enum Ruling {
     Fine,
     Wrong,
     Behind,
 }
 
-fn fine_if(ok: bool) -> Test
+fn fine_if(ok: bool) -> Ruling
     ensures { λ r. ⌜ r ≡ fineIf ok ⌝ }
 {
     if ok {
-        return Test::Fine;
+        return Ruling::Fine;
     }
-    Test::Wrong
+    Ruling::Wrong
 }
 
 // Whether b is stop, err or one of so many active states.
 fn state_ok(states: u16, b: u16) -> bool
     ensures { λ r. ⌜ r ≡ stateOk states b ⌝ }
 {
-    if b == 255 {
+    if b == ranges::ERR_STATE {
         return true;
     }
     b <= states
@@ -46,7 +46,7 @@ fn count_at(counts: &[u16], i: u16) -> u16
     0
 }
 
-fn test_says(counts: &[u16], role: Role, v: u16) -> Test
+fn test_says(counts: &[u16], role: Role, v: u16) -> Ruling
     ensures { λ r. ⌜ r ≡ testSays (now (counts .entry)) role v ⌝ }
 {
     match role {
@@ -54,17 +54,17 @@ fn test_says(counts: &[u16], role: Role, v: u16) -> Test
             if kind == 2 {
                 return fine_if(ranges::allowed::between(1, v, count_at(counts, 0)));
             }
-            Test::Fine
+            Ruling::Fine
         }
         Role::OfTestB(kind, a) => {
             if kind == 2 {
                 return fine_if(state_ok(count_at(counts, a), v));
             }
-            Test::Fine
+            Ruling::Fine
         }
-        Role::ProcessCount => Test::Behind,
-        Role::StateCount(_) => Test::Behind,
-        Role::Other => Test::Fine,
+        Role::ProcessCount => Ruling::Behind,
+        Role::StateCount(_) => Ruling::Behind,
+        Role::Other => Ruling::Fine,
     }
 }
 
@@ -87,13 +87,13 @@ pub fn second_look(
                 return accepted;
             }
             Number::Value(v, next) => match test_says(counts, crate::role_of(want), v) {
-                Test::Wrong => {
+                Ruling::Wrong => {
                     return Answer::Refused(Cause::NotAllowed, at);
                 }
-                Test::Behind => {
+                Ruling::Behind => {
                     return accepted;
                 }
-                Test::Fine => match ranges::advance(most, want, v) {
+                Ruling::Fine => match ranges::advance(most, want, v) {
                     Step::NotAllowed => {
                         return accepted;
                     }

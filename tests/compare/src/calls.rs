@@ -4,9 +4,9 @@
 #[repr(C)]
 #[derive(Clone, Copy, Debug, PartialEq, Eq)]
 pub struct Told {
-    pub number: u64,
-    pub value: u64,
-    pub next: u64,
+    pub refusal: u64,
+    pub first: u64,
+    pub second: u64,
 }
 
 extern "C" {

@@ -71,8 +71,8 @@ fn compare_one(random: &mut Random, tally: &mut Tally) -> Result<(), String> {
 /// An answer of the second program in the interface's form.
 fn told(answer: Result<(u64, u64), Refusal>) -> Told {
     match answer {
-        Ok((value, next)) => Told { number: 0, value, next },
-        Err(refusal) => Told { number: refusal.number() as u64, value: refusal.place as u64, next: 0 },
+        Ok((first, second)) => Told { refusal: 0, first, second },
+        Err(refusal) => Told { refusal: refusal.number() as u64, first: refusal.place as u64, second: 0 },
     }
 }
 
@@ -138,7 +138,7 @@ fn numbers(random: &mut Random, tally: &mut Tally) -> Result<(), String> {
         let given = calls::read_number(&code, at);
         let wanted = told(number::read_number(&code, at).map(|found| (found.value as u64, found.after as u64)));
         same("read number", &given, &wanted, &(&code, at))?;
-        tally.note("read number", given.number);
+        tally.note("read number", given.refusal);
     }
     let value = random.any_number();
     let bytes = number::spelled(value);
@@ -146,7 +146,7 @@ fn numbers(random: &mut Random, tally: &mut Tally) -> Result<(), String> {
     let given = calls::write_number(value, &mut mine);
     let wanted = counted(second::code::fill(&bytes, &mut theirs));
     same("write number", &(given, mine), &(wanted, theirs), &value)?;
-    tally.note("write number", given.number);
+    tally.note("write number", given.refusal);
     Ok(())
 }
 
@@ -162,13 +162,13 @@ fn requirements(random: &mut Random, tally: &mut Tally) -> Result<(), String> {
     let checked = requirement::check_requirement(Code::Bytes(&code), read_as);
     let wanted = told(checked.map(|found| (found.node_count as u64, found.depth as u64)));
     same("check requirement", &given, &wanted, &(read_as, &code))?;
-    tally.note("check requirement", given.number);
+    tally.note("check requirement", given.refusal);
 
     let (mut mine, mut theirs) = number_buffers(random, made.len());
     let given = calls::read_requirement(translated, &code, &mut mine);
     let wanted = counted(requirement::read_requirement(&code, read_as, &mut theirs));
     same("read requirement", &(given, mine), &(wanted, theirs), &(read_as, &code))?;
-    tally.note("read requirement", given.number);
+    tally.note("read requirement", given.refusal);
 
     let row = numbers_of(random, &made);
     let needed = second::code::bytes_of_numbers(&row).len();
@@ -176,7 +176,7 @@ fn requirements(random: &mut Random, tally: &mut Tally) -> Result<(), String> {
     let given = calls::write_requirement(translated, &row, &mut mine);
     let wanted = counted(requirement::write_requirement(&row, read_as, &mut theirs));
     same("write requirement", &(given, mine), &(wanted, theirs), &(read_as, &row))?;
-    tally.note("write requirement", given.number);
+    tally.note("write requirement", given.refusal);
     Ok(())
 }
 
@@ -200,7 +200,7 @@ fn tables(random: &mut Random, tally: &mut Tally) -> Result<(), String> {
     let given = calls::read_table(&code, &mut mine);
     let wanted = counted(table::read_table(&code, &mut theirs));
     same("read table", &(given, mine), &(wanted, theirs), &code)?;
-    tally.note("read table", given.number);
+    tally.note("read table", given.refusal);
 
     let row = numbers_of(random, &made);
     let needed = second::code::bytes_of_numbers(&row).len();
@@ -208,7 +208,7 @@ fn tables(random: &mut Random, tally: &mut Tally) -> Result<(), String> {
     let given = calls::write_table(&row, &mut mine);
     let wanted = counted(table::write_table(&row, &mut theirs));
     same("write table", &(given, mine), &(wanted, theirs), &row)?;
-    tally.note("write table", given.number);
+    tally.note("write table", given.refusal);
     Ok(())
 }
 
@@ -225,7 +225,7 @@ fn inputs_records(random: &mut Random, tally: &mut Tally) -> Result<(), String> 
     let given = calls::read_inputs(inputs_told as u16, &code, &mut mine);
     let wanted = counted(inputs::read_inputs(&code, inputs_told, &mut theirs));
     same("read inputs", &(given, mine), &(wanted, theirs), &(inputs_told, &code))?;
-    tally.note("read inputs", given.number);
+    tally.note("read inputs", given.refusal);
 
     let row = numbers_of(random, &made);
     let needed = second::code::bytes_of_numbers(&row).len();
@@ -233,7 +233,7 @@ fn inputs_records(random: &mut Random, tally: &mut Tally) -> Result<(), String> 
     let given = calls::write_inputs(inputs_told as u16, &row, &mut mine);
     let wanted = counted(inputs::write_inputs(&row, inputs_told, &mut theirs));
     same("write inputs", &(given, mine), &(wanted, theirs), &(inputs_told, &row))?;
-    tally.note("write inputs", given.number);
+    tally.note("write inputs", given.refusal);
     Ok(())
 }
 
@@ -253,7 +253,7 @@ fn sheets(random: &mut Random, tally: &mut Tally) -> Result<(), String> {
         let given = calls::find(&bytes, &name);
         let wanted = told(sheet::look_up(&bytes, &name).map(|body| (body.begin as u64, body.end as u64)));
         same("find", &given, &wanted, &(&bytes, &name))?;
-        tally.note("find", given.number);
+        tally.note("find", given.refusal);
     }
     Ok(())
 }

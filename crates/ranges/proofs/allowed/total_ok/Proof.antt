@@ -12,9 +12,12 @@ add-result c = search needs
 add-result-2 : tie.Need-add-result-2
 add-result-2 c = search needs
 
+cast-result : tie.Need-cast-result
+cast-result c = search needs
+
 returns : tie.Need-returns
 unfolding totalOk
 returns c = refl
 
 pub total-ok-spec : {M : Type 1} → statement M
-total-ok-spec = tie.close (tie.spec add-result add-result-2 returns)
+total-ok-spec = tie.close (tie.spec add-result add-result-2 cast-result returns)

@@ -3,7 +3,7 @@ use native.Mathlib.Omega.{arith}
 use mathlib.Core.Path.{refl, sym, _∙_}
 use Rattle.coding.specs.Code.{sourceSize}
 use Rattle.ranges.specs.declared.Step.the-variants.{Last, NotAllowed as Bad}
-use Rattle.table.specs.declared.tests.Test.the-variants.{Fine, Wrong, Behind}
+use Rattle.table.specs.declared.tests.Ruling.the-variants.{Fine, Wrong, Behind}
 use Rattle.table.proofs.SecondLook.{Tests, begins, stops, passes, says-so, goes-on}
 use borrow.Author.Needs.{needs}
 use Rattle.table.proofs.tests.second_look.Statement.{statement}

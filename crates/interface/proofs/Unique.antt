@@ -1,0 +1,71 @@
+-- The promises of the C functions leave no choice: two answers, and what two calls leave in a lent buffer, are equal where they satisfy one.
+-- Each is said of the function's own promise, `Post`.
+-- Assumes nothing.
+use mathlib.Core.Path.{_≡_, sym, _∙_}
+use contract.Lifetimes.{Lfts}
+use borrow.Fn.Kinds.{Dens, endedOf}
+use denote.Ref.{now}
+use denote.Triple.Clauses.{AtExit}
+use Rattle.coding.specs.declared.Told.{Told}
+use Rattle.interface.proofs.scancheck_read_number.Kinds as read-number
+use Rattle.interface.proofs.scancheck_read_number.Reads as read-number-reads
+use Rattle.interface.proofs.scancheck_write_number.Kinds as write-number
+use Rattle.interface.proofs.scancheck_write_number.Reads as write-number-reads
+use Rattle.interface.proofs.scancheck_check_requirement.Kinds as check-requirement
+use Rattle.interface.proofs.scancheck_check_requirement.Reads as check-requirement-reads
+use Rattle.interface.proofs.scancheck_read_requirement.Kinds as read-requirement
+use Rattle.interface.proofs.scancheck_read_requirement.Reads as read-requirement-reads
+use Rattle.interface.proofs.scancheck_write_requirement.Kinds as write-requirement
+use Rattle.interface.proofs.scancheck_write_requirement.Reads as write-requirement-reads
+use Rattle.interface.proofs.scancheck_read_table.Kinds as read-table
+use Rattle.interface.proofs.scancheck_read_table.Reads as read-table-reads
+use Rattle.interface.proofs.scancheck_write_table.Kinds as write-table
+use Rattle.interface.proofs.scancheck_write_table.Reads as write-table-reads
+use Rattle.interface.proofs.scancheck_read_inputs.Kinds as read-inputs
+use Rattle.interface.proofs.scancheck_read_inputs.Reads as read-inputs-reads
+use Rattle.interface.proofs.scancheck_write_inputs.Kinds as write-inputs
+use Rattle.interface.proofs.scancheck_write_inputs.Reads as write-inputs-reads
+use Rattle.interface.proofs.scancheck_find.Kinds as find
+use Rattle.interface.proofs.scancheck_find.Reads as find-reads
+
+module _ (κs : Lfts 1) (r t : Told) where
+  pub read-number-unique : (a : Dens κs read-number.ps) (e f : AtExit (endedOf 1 read-number.ps read-number.r) κs) →
+      read-number-reads.Post κs a r e → read-number-reads.Post κs a t f → r ≡ t
+  read-number-unique a e f p q = p ∙ sym q
+
+  pub write-number-unique : (a : Dens κs write-number.ps) (e f : AtExit (endedOf 1 write-number.ps write-number.r) κs) →
+      write-number-reads.Post κs a r e → write-number-reads.Post κs a t f → (r ≡ t) × (now (e .1 .0) ≡ now (f .1 .0))
+  write-number-unique a e f p q = (p .0 ∙ sym (q .0), p .1 ∙ sym (q .1))
+
+  pub check-requirement-unique : (a : Dens κs check-requirement.ps) (e f : AtExit (endedOf 1 check-requirement.ps check-requirement.r) κs) →
+      check-requirement-reads.Post κs a r e → check-requirement-reads.Post κs a t f → r ≡ t
+  check-requirement-unique a e f p q = p ∙ sym q
+
+module _ (κs : Lfts 2) (r t : Told) where
+  pub read-requirement-unique : (a : Dens κs read-requirement.ps) (e f : AtExit (endedOf 2 read-requirement.ps read-requirement.r) κs) →
+      read-requirement-reads.Post κs a r e → read-requirement-reads.Post κs a t f → (r ≡ t) × (now (e .1 .1 .0) ≡ now (f .1 .1 .0))
+  read-requirement-unique a e f p q = (p .0 ∙ sym (q .0), p .1 ∙ sym (q .1))
+
+  pub write-requirement-unique : (a : Dens κs write-requirement.ps) (e f : AtExit (endedOf 2 write-requirement.ps write-requirement.r) κs) →
+      write-requirement-reads.Post κs a r e → write-requirement-reads.Post κs a t f → (r ≡ t) × (now (e .1 .1 .0) ≡ now (f .1 .1 .0))
+  write-requirement-unique a e f p q = (p .0 ∙ sym (q .0), p .1 ∙ sym (q .1))
+
+  pub read-table-unique : (a : Dens κs read-table.ps) (e f : AtExit (endedOf 2 read-table.ps read-table.r) κs) →
+      read-table-reads.Post κs a r e → read-table-reads.Post κs a t f → (r ≡ t) × (now (e .1 .0) ≡ now (f .1 .0))
+  read-table-unique a e f p q = (p .0 ∙ sym (q .0), p .1 ∙ sym (q .1))
+
+  pub write-table-unique : (a : Dens κs write-table.ps) (e f : AtExit (endedOf 2 write-table.ps write-table.r) κs) →
+      write-table-reads.Post κs a r e → write-table-reads.Post κs a t f → (r ≡ t) × (now (e .1 .0) ≡ now (f .1 .0))
+  write-table-unique a e f p q = (p .0 ∙ sym (q .0), p .1 ∙ sym (q .1))
+
+  pub read-inputs-unique : (a : Dens κs read-inputs.ps) (e f : AtExit (endedOf 2 read-inputs.ps read-inputs.r) κs) →
+      read-inputs-reads.Post κs a r e → read-inputs-reads.Post κs a t f → (r ≡ t) × (now (e .1 .1 .0) ≡ now (f .1 .1 .0))
+  read-inputs-unique a e f p q = (p .0 ∙ sym (q .0), p .1 ∙ sym (q .1))
+
+  pub write-inputs-unique : (a : Dens κs write-inputs.ps) (e f : AtExit (endedOf 2 write-inputs.ps write-inputs.r) κs) →
+      write-inputs-reads.Post κs a r e → write-inputs-reads.Post κs a t f → (r ≡ t) × (now (e .1 .1 .0) ≡ now (f .1 .1 .0))
+  write-inputs-unique a e f p q = (p .0 ∙ sym (q .0), p .1 ∙ sym (q .1))
+
+  pub find-unique : (a : Dens κs find.ps) (e f : AtExit (endedOf 2 find.ps find.r) κs) →
+      find-reads.Post κs a r e → find-reads.Post κs a t f → r ≡ t
+  find-unique a e f p q = p ∙ sym q
