@@ -9,3 +9,4 @@ pub mod Codes
 pub mod Undoing
 pub mod Examples
 pub mod Unique
+pub mod Walking

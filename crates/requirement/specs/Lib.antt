@@ -3,3 +3,4 @@ pub mod Tags
 pub mod Limits
 pub mod Reading
 pub mod Summing
+pub mod Walking

@@ -1,0 +1,4 @@
+pub mod Positions
+pub mod Steps
+pub mod WellFormed
+pub mod Examples

@@ -1,0 +1,39 @@
+-- The bytes of a trace. Document 01, Phases and the lasso: "In the trace each has 5 bytes: phase, then 32 atoms, atom 0 the lowest bit, low byte first".
+-- Assumes nothing: these are definitions.
+use Prim.Native.Nat.{ℕ, zero, suc, _+_, _*_, _/_, _%_}
+use mathlib.Core.Bool.{Bool}
+use mathlib.Core.List.{List}
+use lib.ListN.{length, getD}
+use lib.Dec.{eqb}
+use Rattle.requirement.specs.declared.Phase.{Phase}
+use Rattle.requirement.specs.declared.Phase.the-variants.{Input, Exe, Output}
+use Rattle.meaning.specs.Trace.{Trace}
+use Rattle.bits.specs.Bits.{bitB, countB}
+
+abbrev pub positions : List ℕ → ℕ
+positions s = length s / 5
+
+-- "Output (2); .. Input (0); all others are Exe (1)"
+abbrev pub phaseFrom : ℕ → Phase
+phaseFrom zero = Input
+phaseFrom (suc zero) = Exe
+phaseFrom (suc (suc n)) = Output
+
+-- The phase byte of position p, and whether it is this one.
+abbrev pub phaseByte : List ℕ → ℕ → ℕ
+phaseByte s p = getD s (p * 5) 0
+
+unfoldable pub markB : List ℕ → ℕ → ℕ → Bool
+markB s m p = eqb (phaseByte s p) m
+
+-- Atom a at position p.
+unfoldable pub atomB : List ℕ → ℕ → ℕ → Bool
+atomB s a p = bitB (getD s (p * 5 + 1 + a / 8) 0) (a % 8)
+
+-- The lasso that a trace's bytes and a loop start are.
+abbrev pub traceOf : List ℕ → ℕ → Trace
+traceOf s start = record { len = positions s; loop = start; phaseAt = λ p. phaseFrom (phaseByte s p); atomAt = λ p a. atomB s a p }
+
+-- How many of its positions are Input.
+abbrev pub inputsIn : List ℕ → ℕ
+inputsIn s = countB (markB s 0) (positions s)

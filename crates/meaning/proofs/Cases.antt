@@ -1,0 +1,98 @@
+-- The marked cases hold of the definitions: one computed test over their list. Assumes nothing.
+use Prim.Native.Nat.{ℕ, suc, zero, _≤_, _<_, _+_}
+use native.Mathlib.Omega.{arith}
+use native.Mathlib.Nat.{eq-or-lt-of-le, le-of-suc-le-suc}
+use mathlib.Core.Path.{_≡_, refl, subst, sym, ap, _∙_}
+use mathlib.Core.Logic.{_↔_, ⊎-elim}
+use mathlib.Core.Bool.{Bool, true, false, So, not as neg, _&&_, decide, false≢true}
+use mathlib.Core.List.{List, [], _∷_}
+use lib.Dec.{eqb}
+use borrow.Author.Tests.{eqb-true}
+use Rattle.requirement.specs.declared.Phase.the-variants.{Input}
+use Rattle.requirement.specs.declared.One.the-variants.{Not}
+use Rattle.requirement.specs.declared.Two.the-variants.{And}
+use Rattle.requirement.specs.Requirement.{Requirement, mark, one, two}
+use Rattle.requirement.specs.Tags.{codeOf}
+use Rattle.coding.specs.Number.{bytesOf}
+use Rattle.meaning.specs.Phases.{Phase-discrete}
+use Rattle.meaning.specs.Translation.{translate}
+use Rattle.meaning.specs.Trace.{Trace, WellFormed, Follows, after, position}
+use Rattle.meaning.specs.Rows.{judge, walk}
+use Rattle.meaning.specs.Findings.{Findings, select}
+use Rattle.meaning.specs.Marked.{bench, marked, slips, Case, holds, fails, finds, gives, bytes, Says, All}
+use Rattle.meaning.proofs.Walk.{and-both}
+use Rattle.meaning.proofs.Judged.{judged}
+use Rattle.meaning.proofs.Found.{found}
+
+-- The bench trace is well formed, its steps by one test.
+up-to : (ℕ → Bool) → ℕ → Bool
+up-to b zero = true
+up-to b (suc k) = b k && up-to b k
+
+up-to-each : (b : ℕ → Bool) (k : ℕ) → So (up-to b k) → (i : ℕ) → i < k → So (b i)
+unfolding up-to
+up-to-each b zero h i l = absurd (omega arith)
+up-to-each b (suc k) h i l =
+    let (x, y) = and-both (b k) _ h in
+    ⊎-elim (λ (e : i ≡ k). rw e x) (λ (m : i < k). up-to-each b k y i m) (eq-or-lt-of-le (le-of-suc-le-suc l))
+
+bench-steps : So (up-to (λ i. Follows (bench .phaseAt i) (bench .phaseAt (after bench i))) 12)
+unfolding up-to
+bench-steps = refl
+
+pub well : WellFormed bench
+well =
+    record {
+      inside = omega arith;
+      steps = up-to-each (λ i. Follows (bench .phaseAt i) (bench .phaseAt (after bench i))) 12 bench-steps;
+      written = (4, omega arith, omega arith, refl);
+    }
+
+same : List ℕ → List ℕ → Bool
+same [] [] = true
+same [] (y ∷ ys) = false
+same (x ∷ xs) [] = false
+same (x ∷ xs) (y ∷ ys) = eqb x y && same xs ys
+
+same-is : (xs ys : List ℕ) → So (same xs ys) → xs ≡ ys
+unfolding same
+same-is [] [] h = refl
+same-is [] (y ∷ ys) h = absurd (false≢true h)
+same-is (x ∷ xs) [] h = absurd (false≢true h)
+same-is (x ∷ xs) (y ∷ ys) h =
+    let (p, q) = and-both (eqb x y) _ h in
+    let e : x ≡ y = eqb-true x y p in
+    let r : xs ≡ ys = same-is xs ys q in
+    cc
+
+test : Case → Bool
+test (holds f n) = judge bench f (position bench n)
+test (fails f n) = neg (judge bench f (position bench n))
+test (finds f l) = same (select (judge bench (two And (mark Input) (one Not f))) 12 0) l
+test (gives f l) = same (codeOf (translate f)) l
+test (bytes n l) = same (bytesOf n) l
+
+passed : (c : Case) → So (test c) → Says c
+unfolding test
+passed (holds f n) h = judged well f .at n .1 h
+passed (fails f n) h = λ x. false≢true (sym (ap neg (judged well f .at n .0 x)) ∙ h)
+passed (finds f l) h = rw (same-is _ l h) at (found well f)
+passed (gives f l) h = same-is _ l h
+passed (bytes n l) h = same-is _ l h
+
+tests : List Case → Bool
+tests [] = true
+tests (c ∷ cs) = test c && tests cs
+
+all-passed : (cs : List Case) → So (tests cs) → All Says cs
+unfolding tests
+all-passed [] h = tt
+all-passed (c ∷ cs) h = let (x, y) = and-both (test c) _ h in (passed c x, all-passed cs y)
+
+pub shown : All Says marked
+unfolding tests test select judge walk decide position same translate codeOf bytesOf
+shown = all-passed marked refl
+
+pub slips-shown : All Says slips
+unfolding tests test select judge walk decide position same translate
+slips-shown = all-passed slips refl

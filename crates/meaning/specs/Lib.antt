@@ -1,0 +1,7 @@
+pub mod Phases
+pub mod Meaning
+pub mod Translation
+pub mod Trace
+pub mod Rows
+pub mod Findings
+pub mod Marked
