@@ -4,4 +4,3 @@ pub mod Translation
 pub mod Trace
 pub mod Rows
 pub mod Findings
-pub mod Marked

@@ -1,4 +1,4 @@
--- Document 01, Meaning: "Translation, operands translated first, \"p implies q\" written not(p and not q)". The table is written once, over whatever has the plain
+-- Document 01, Meaning: "Translation, operands translated first, "p implies q" written not(p and not q)". The table is written once, over whatever has the plain
 -- operators: requirements (the translation itself), rows (the judging) and facts about moments (the proofs).
 -- Assumes nothing: these are definitions.
 use Rattle.requirement.specs.declared.Phase.{Phase}
@@ -26,13 +26,14 @@ pub record Operators {ℓ} (A : Type ℓ) : Type ℓ where
 module _ {ℓ} {A : Type ℓ} (a : Operators A) where
   open Operators a using (is, neg, both, X, F, G, U)
 
-  -- "p implies q".
   abbrev pub implies : A → A → A
   implies p q = neg (both p (neg q))
 
   abbrev pub oneTo : One → A → A
   oneTo Not f = neg f
   oneTo (Next Plain) f = X f
+  -- "X^e f: X(Exe and f). F^e f: (not Output) U (Exe and f). G^e f: (f and Exe) U Output."
+  -- "X^i f: (not Input) U (Input and X((not Input) U (Input and f))). F^i f: F(Input and f). G^i f: G(Input implies f) .. o with Output."
   oneTo (Next Within) f = X (both (is Exe) f)
   oneTo (Next (Each s)) f = let p = is (phaseOf s) in U (neg p) (both p (X (U (neg p) (both p f))))
   oneTo (Ever Plain) f = F f
@@ -45,6 +46,7 @@ module _ {ℓ} {A : Type ℓ} (a : Operators A) where
   abbrev pub twoTo : Two → A → A → A
   twoTo And f g = both f g
   twoTo (Until Plain) f g = U f g
+  -- "f U^e g: (f and Exe) U (g and Exe)." "f U^i g: (Input implies f) U (Input and g)."
   twoTo (Until Within) f g = U (both f (is Exe)) (both g (is Exe))
   twoTo (Until (Each s)) f g = U (implies (is (phaseOf s)) f) (both (is (phaseOf s)) g)
 

@@ -14,39 +14,28 @@ use Rattle.requirement.specs.declared.Two.the-variants.{And}
 use Rattle.requirement.specs.Requirement.{Requirement, mark, one, two}
 use Rattle.requirement.specs.Tags.{codeOf}
 use Rattle.coding.specs.Number.{bytesOf}
 use Rattle.meaning.specs.Phases.{Phase-discrete}
 use Rattle.meaning.specs.Translation.{translate}
 use Rattle.meaning.specs.Trace.{Trace, WellFormed, Follows, after, position}
 use Rattle.meaning.specs.Rows.{judge, walk}
 use Rattle.meaning.specs.Findings.{Findings, select}
-use Rattle.meaning.specs.Marked.{bench, marked, slips, Case, holds, fails, finds, gives, bytes, Says, All}
+use Rattle.marked.specs.Marked.{bench, benchBytes, marked, slips, Case, holds, fails, finds, gives, bytes, Says, All}
+use Rattle.coding.specs.declared.Answer.the-variants.{Count}
+use Rattle.bits.specs.Bits.{bitB}
+use Rattle.lasso.specs.Bytes.{atomB}
+use Rattle.lasso.specs.Checking.{checkTrace, checkBy, lengthOk, mayFollow, stepsFrom, outputFrom}
+use Rattle.lasso.proofs.WellFormed.{accepted-is-well-formed}
 use Rattle.meaning.proofs.Walk.{and-both}
 use Rattle.meaning.proofs.Judged.{judged}
 use Rattle.meaning.proofs.Found.{found}
 
--- The bench trace is well formed, its steps by one test.
-up-to : (ℕ → Bool) → ℕ → Bool
-up-to b zero = true
-up-to b (suc k) = b k && up-to b k
+-- The bench trace is well-formed, by the check of its bytes.
+checked : checkTrace benchBytes 4 ≡ Count 12
+unfolding checkBy lengthOk mayFollow stepsFrom outputFrom
+checked = refl
 
-up-to-each : (b : ℕ → Bool) (k : ℕ) → So (up-to b k) → (i : ℕ) → i < k → So (b i)
-unfolding up-to
-up-to-each b zero h i l = absurd (omega arith)
-up-to-each b (suc k) h i l =
-    let (x, y) = and-both (b k) _ h in
-    ⊎-elim (λ (e : i ≡ k). rw e x) (λ (m : i < k). up-to-each b k y i m) (eq-or-lt-of-le (le-of-suc-le-suc l))
-
-bench-steps : So (up-to (λ i. Follows (bench .phaseAt i) (bench .phaseAt (after bench i))) 12)
-unfolding up-to
-bench-steps = refl
-
-pub well : WellFormed bench
-well =
-    record {
-      inside = omega arith;
-      steps = up-to-each (λ i. Follows (bench .phaseAt i) (bench .phaseAt (after bench i))) 12 bench-steps;
-      written = (4, omega arith, omega arith, refl);
-    }
+well : WellFormed bench
+well = accepted-is-well-formed benchBytes 4 12 checked .well-formed
 
 same : List ℕ → List ℕ → Bool
 same [] [] = true
@@ -90,9 +79,9 @@ all-passed [] h = tt
 all-passed (c ∷ cs) h = let (x, y) = and-both (test c) _ h in (passed c x, all-passed cs y)
 
 pub shown : All Says marked
-unfolding tests test select judge walk decide position same translate codeOf bytesOf
+unfolding tests test select judge walk decide position same translate codeOf bytesOf atomB bitB
 shown = all-passed marked refl
 
 pub slips-shown : All Says slips
-unfolding tests test select judge walk decide position same translate
+unfolding tests test select judge walk decide position same translate atomB bitB
 slips-shown = all-passed slips refl

@@ -1,44 +1,31 @@
--- The bench trace, and the cases that the document marks for proof on it. Assumes nothing.
-use Prim.Native.Nat.{ℕ, suc, zero, _≤_, _<_, _+_, _*_, _/_, _%_}
+-- Document 01, The bench case: "Marked for proof on this trace: M1 that finding ..", and the slips that it must exclude.
+-- Assumes nothing: these are definitions.
+use Prim.Native.Nat.{ℕ}
 use mathlib.Core.Path.{_≡_}
-use mathlib.Core.Logic.{_↔_}
-use mathlib.Core.Bool.{Bool, true, false, _&&_, _||_, cond}
-use mathlib.Core.List.{List, [], _∷_, _++_}
-use lib.Dec.{leb, ltb, eqb}
-use lib.ListN.{getD}
-use Rattle.requirement.specs.declared.Phase.{Phase}
-use Rattle.requirement.specs.declared.End.{End}
-use Rattle.requirement.specs.declared.Family.{Family}
-use Rattle.requirement.specs.declared.One.{One}
-use Rattle.requirement.specs.declared.Two.{Two}
+use mathlib.Core.List.{List, [], _∷_}
 use Rattle.requirement.specs.declared.Phase.the-variants.{Input, Exe, Output}
 use Rattle.requirement.specs.declared.End.the-variants.{Reads, Writes}
 use Rattle.requirement.specs.declared.Family.the-variants.{Plain, Within, Each}
 use Rattle.requirement.specs.declared.One.the-variants.{Not, Next, Ever, Always}
 use Rattle.requirement.specs.declared.Two.the-variants.{And, Until}
 use Rattle.requirement.specs.Requirement.{Requirement, atom, mark, one, two}
-use Rattle.meaning.specs.Phases.{phaseOf}
 use Rattle.meaning.specs.Meaning.{Holds}
 use Rattle.requirement.specs.Tags.{codeOf}
 use Rattle.coding.specs.Number.{bytesOf}
 use Rattle.meaning.specs.Translation.{translate, implies, written}
 use Rattle.meaning.specs.Trace.{Trace, endless}
 use Rattle.meaning.specs.Findings.{Findings}
+use Rattle.lasso.specs.Bytes.{traceOf}
 
--- A phase by its number.
-abbrev pub phaseNo : ℕ → Phase
-phaseNo zero = Input
-phaseNo (suc zero) = Exe
-phaseNo (suc (suc n)) = Output
+-- The bench case's trace: "Twelve positions, loop start 4; Input at 1, 5, 9; Output at 0, 4, 8; atom 0 at 5 to 8, atom 1 at 8 to 11." Five bytes a position.
+abbrev pub benchBytes : List ℕ
+benchBytes =
+    2 ∷ 0 ∷ 0 ∷ 0 ∷ 0 ∷ 0 ∷ 0 ∷ 0 ∷ 0 ∷ 0 ∷ 1 ∷ 0 ∷ 0 ∷ 0 ∷ 0 ∷ 1 ∷ 0 ∷ 0 ∷ 0 ∷ 0
+    ∷ 2 ∷ 0 ∷ 0 ∷ 0 ∷ 0 ∷ 0 ∷ 1 ∷ 0 ∷ 0 ∷ 0 ∷ 1 ∷ 1 ∷ 0 ∷ 0 ∷ 0 ∷ 1 ∷ 1 ∷ 0 ∷ 0 ∷ 0
+    ∷ 2 ∷ 3 ∷ 0 ∷ 0 ∷ 0 ∷ 0 ∷ 2 ∷ 0 ∷ 0 ∷ 0 ∷ 1 ∷ 2 ∷ 0 ∷ 0 ∷ 0 ∷ 1 ∷ 2 ∷ 0 ∷ 0 ∷ 0 ∷ []
 
 abbrev pub bench : Trace
-bench =
-    record {
-      len = 12;
-      loop = 4;
-      phaseAt = λ i. phaseNo (getD (2 ∷ 0 ∷ 1 ∷ 1 ∷ 2 ∷ 0 ∷ 1 ∷ 1 ∷ 2 ∷ 0 ∷ 1 ∷ 1 ∷ []) i 1);
-      atomAt = λ i k. (eqb k 0 && (leb 5 i && leb i 8)) || (eqb k 1 && (leb 8 i && leb i 11));
-    }
+bench = traceOf benchBytes 4
 
 -- A marked case, and what it says.
 pub data Case : Type 0 where
@@ -58,20 +45,26 @@ Says (bytes n l) = bytesOf n ≡ l
 abbrev pub heated : Requirement
 heated = implies written (atom 0) (atom 1)
 
--- M1 to M12.
 abbrev pub marked : List Case
 marked =
+    -- "M1 that finding."
     finds heated (5 ∷ [])
+    -- "M2 G^i not(a0 and not X^i a1) holds at 0."
     ∷ holds (one (Always (Each Reads)) (implies written (atom 0) (one (Next (Each Reads)) (atom 1)))) 0
+    -- "M3 plain G of M1's requirement fails at 0; M4 its G^o holds."
     ∷ fails (one (Always Plain) heated) 0
     ∷ holds (one (Always (Each Writes)) heated) 0
+    -- "M5 X^i a1 at 6 fails. M6 X^i a1 at 5 holds."
     ∷ fails (one (Next (Each Reads)) (atom 1)) 6
     ∷ holds (one (Next (Each Reads)) (atom 1)) 5
+    -- "M7 G^e a0 at 5 fails; M8 at 6 holds. M9 G^e a0 at 8 holds, F^e a0 at 8 fails."
     ∷ fails (one (Always Within) (atom 0)) 5
     ∷ holds (one (Always Within) (atom 0)) 6
     ∷ holds (one (Always Within) (atom 0)) 8
     ∷ fails (one (Ever Within) (atom 0)) 8
+    -- "M10 X^e a0 at 4 fails."
     ∷ fails (one (Next Within) (atom 0)) 4
+    -- "M11 X^i a1 translates to 11 1 3 2 3 8 11 1 3 2 3 0 1. M12 300 is AC 02."
     ∷ gives (one (Next (Each Reads)) (atom 1)) (11 ∷ 1 ∷ 3 ∷ 2 ∷ 3 ∷ 8 ∷ 11 ∷ 1 ∷ 3 ∷ 2 ∷ 3 ∷ 0 ∷ 1 ∷ [])
     ∷ bytes 300 (0xAC ∷ 0x02 ∷ [])
     ∷ []
@@ -81,15 +74,18 @@ abbrev pub All : (Case → Type 0) → List Case → Type 0
 All P [] = Unit
 All P (c ∷ cs) = P c × All P cs
 
--- The slips that must be excluded, on the same trace: the published G^e and X^i say otherwise than the cases above at 5 and at 6,
--- an until is not granted by going round for ever, and F sees what lies before the join.
+-- "Slips this must exclude", on the same trace.
 abbrev pub never : Requirement
 never = two And (atom 0) (one Not (atom 0))
 
 abbrev pub slips : List Case
 slips =
-    holds (two (Until Plain) (two And (atom 0) (mark Exe)) (one Not (mark Exe))) 5
+    -- "An until that is granted by going round the loop for ever."
+    fails (two (Until Plain) (one Not never) never) 0
+    -- "X^i from an Exe state taken as the nearest Input": that one would hold at 6 (M5 says that X^i does not).
     ∷ holds (one (Next Plain) (two (Until Plain) (one Not (mark Input)) (two And (mark Input) (atom 1)))) 6
-    ∷ fails (two (Until Plain) (one Not never) never) 0
+    -- "Walking the loop once only, so that F misses what lies before the join."
     ∷ holds (one (Ever Plain) (two And (mark Input) (atom 0))) 9
+    -- G^e by its published target would hold at 5 (M7 says that G^e does not).
+    ∷ holds (two (Until Plain) (two And (atom 0) (mark Exe)) (one Not (mark Exe))) 5
     ∷ []
