@@ -29,11 +29,11 @@ module _ {ℓ} {A : Type ℓ} (a : Operators A) where
   abbrev pub implies : A → A → A
   implies p q = neg (both p (neg q))
 
+  -- "X^e f: X(Exe and f). F^e f: (not Output) U (Exe and f). G^e f: (f and Exe) U Output."
+  -- "X^i f: (not Input) U (Input and X((not Input) U (Input and f))). F^i f: F(Input and f). G^i f: G(Input implies f) .. o with Output."
   abbrev pub oneTo : One → A → A
   oneTo Not f = neg f
   oneTo (Next Plain) f = X f
-  -- "X^e f: X(Exe and f). F^e f: (not Output) U (Exe and f). G^e f: (f and Exe) U Output."
-  -- "X^i f: (not Input) U (Input and X((not Input) U (Input and f))). F^i f: F(Input and f). G^i f: G(Input implies f) .. o with Output."
   oneTo (Next Within) f = X (both (is Exe) f)
   oneTo (Next (Each s)) f = let p = is (phaseOf s) in U (neg p) (both p (X (U (neg p) (both p f))))
   oneTo (Ever Plain) f = F f
@@ -43,10 +43,10 @@ module _ {ℓ} {A : Type ℓ} (a : Operators A) where
   oneTo (Always Within) f = U (both f (is Exe)) (is Output)
   oneTo (Always (Each s)) f = G (implies (is (phaseOf s)) f)
 
+  -- "f U^e g: (f and Exe) U (g and Exe)." "f U^i g: (Input implies f) U (Input and g)."
   abbrev pub twoTo : Two → A → A → A
   twoTo And f g = both f g
   twoTo (Until Plain) f g = U f g
-  -- "f U^e g: (f and Exe) U (g and Exe)." "f U^i g: (Input implies f) U (Input and g)."
   twoTo (Until Within) f g = U (both f (is Exe)) (both g (is Exe))
   twoTo (Until (Each s)) f g = U (implies (is (phaseOf s)) f) (both (is (phaseOf s)) g)
 

@@ -1,0 +1,7 @@
+pub mod Putting
+pub mod Codes
+pub mod Steps
+pub mod Fitting
+pub mod Agreement
+pub mod Answers
+pub mod Unique
