@@ -1,5 +1,5 @@
 /*
- * The scan-cycle checker: reading and writing its coding.
+ * The scan-cycle checker: reading and writing its coding, and translating requirements.
  *
  * Every function takes any bytes and any numbers, ends, and answers by the numbers of document 01. What is proved of each stands
  * in crates/interface/src/lib.rt. Nothing can check the following here, so the caller must see to it:
@@ -54,6 +54,11 @@ scancheck_told scancheck_write_table(const uint16_t *numbers, size_t count, uint
    An inputs record has at most 43,682 numbers. */
 scancheck_told scancheck_read_inputs(uint16_t inputs, const uint8_t *code, size_t code_length, uint16_t *out, size_t out_length);
 scancheck_told scancheck_write_inputs(uint16_t inputs, const uint16_t *numbers, size_t count, uint8_t *buf, size_t buf_length);
+
+/* An untranslated requirement's translation to plain operators and marks, as its code, from out[0] on. first: how many bytes. Refusals 10 (room under
+   1,408 bytes, whatever the length), then 1, 3, 4. The rest of out stays as it was; on a refusal all of it. The answer is always accepted as a translated
+   requirement, and holds at the same moments of every well-formed trace. */
+scancheck_told scancheck_translate(const uint8_t *code, size_t code_length, uint8_t *out, size_t out_length);
 
 /* The body of a name in a sheet. first: the place where it begins; second: the place after its end. Refusals 1, 2, 11. */
 scancheck_told scancheck_find(const uint8_t *sheet, size_t sheet_length, const uint8_t *name, size_t name_length);

@@ -54,6 +54,12 @@ int main(void) {
     expect("33 inputs", scancheck_read_inputs(33, inputs, sizeof inputs, numbers, 32), 2, 0, 0);
     expect("inputs written", scancheck_write_inputs(1, numbers, 5, again, 32), 0, 5, 0);
 
+    const uint8_t next_input[] = {16, 0, 1};
+    uint8_t plain[1408];
+    expect("M11 translated", scancheck_translate(next_input, sizeof next_input, plain, sizeof plain), 0, 13, 0);
+    expect_bytes("M11 translated", plain, m11, 13);
+    expect("no room to translate", scancheck_translate(next_input, sizeof next_input, plain, 1407), 10, 1408, 0);
+
     const uint8_t sheet[] = {2, 1, 'a', 2, 'x', 'y', 1, 'b', 0};
     expect("a", scancheck_find(sheet, sizeof sheet, (const uint8_t *)"a", 1), 0, 4, 6);
     expect("b", scancheck_find(sheet, sizeof sheet, (const uint8_t *)"b", 1), 0, 9, 9);

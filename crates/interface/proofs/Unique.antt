@@ -25,6 +25,8 @@ use Rattle.interface.proofs.scancheck_read_inputs.Kinds as read-inputs
 use Rattle.interface.proofs.scancheck_read_inputs.Reads as read-inputs-reads
 use Rattle.interface.proofs.scancheck_write_inputs.Kinds as write-inputs
 use Rattle.interface.proofs.scancheck_write_inputs.Reads as write-inputs-reads
+use Rattle.interface.proofs.scancheck_translate.Kinds as translate
+use Rattle.interface.proofs.scancheck_translate.Reads as translate-reads
 use Rattle.interface.proofs.scancheck_find.Kinds as find
 use Rattle.interface.proofs.scancheck_find.Reads as find-reads
 
@@ -65,6 +67,10 @@ module _ (κs : Lfts 2) (r t : Told) where
   pub write-inputs-unique : (a : Dens κs write-inputs.ps) (e f : AtExit (endedOf 2 write-inputs.ps write-inputs.r) κs) →
       write-inputs-reads.Post κs a r e → write-inputs-reads.Post κs a t f → (r ≡ t) × (now (e .1 .1 .0) ≡ now (f .1 .1 .0))
   write-inputs-unique a e f p q = (p .0 ∙ sym (q .0), p .1 ∙ sym (q .1))
+
+  pub translate-unique : (a : Dens κs translate.ps) (e f : AtExit (endedOf 2 translate.ps translate.r) κs) →
+      translate-reads.Post κs a r e → translate-reads.Post κs a t f → (r ≡ t) × (now (e .1 .0) ≡ now (f .1 .0))
+  translate-unique a e f p q = (p .0 ∙ sym (q .0), p .1 ∙ sym (q .1))
 
   pub find-unique : (a : Dens κs find.ps) (e f : AtExit (endedOf 2 find.ps find.r) κs) →
       find-reads.Post κs a r e → find-reads.Post κs a t f → r ≡ t

@@ -8,6 +8,8 @@ use Rattle.coding.specs.Refusal.{answerTold}
 use Rattle.coding.specs.Room.{readBy, writeBy, stored}
 use Rattle.coding.specs.declared.Told.{Told}
 use Rattle.coding.specs.declared.Answer.{Answer}
+use Rattle.requirement.specs.Reading.{parsed}
+use Rattle.translate.specs.Writing.{translated, translation}
 use Rattle.requirement.specs.declared.Kind.{Kind}
 use Rattle.requirement.specs.declared.Kind.the-variants.{Untranslated, Translated}
 
@@ -28,3 +30,7 @@ writeTold grammar xs buf = answerTold (writeBy grammar xs buf)
 
 abbrev pub writeLeaves : (Code → Answer) → List ℕ → List ℕ → List ℕ
 writeLeaves grammar xs buf = stored (writeBy grammar xs buf) buf (bytesOfAll xs)
+
+-- Translating: the buffer.
+abbrev pub translateLeaves : List ℕ → List ℕ → List ℕ
+translateLeaves s out = stored (translated s out) out (translation (parsed Untranslated (codeAt s 0)))

@@ -15,7 +15,8 @@ ghost use Rattle.ranges.specs.Limits.{mostProcesses};
 ghost use Rattle.requirement.specs.Reading.{checked, checkedTold, grammar};
 ghost use Rattle.table.specs.Table.{tableGrammar, inputsGrammar};
 ghost use Rattle.sheet.specs.Sheet.{findIn, foundTold};
-ghost use Rattle.interface.specs.Calls.{kindOf, readTold, readLeaves, writeTold, writeLeaves};
+ghost use Rattle.translate.specs.Writing.{translated};
+ghost use Rattle.interface.specs.Calls.{kindOf, readTold, readLeaves, writeTold, writeLeaves, translateLeaves};
 
 fn tell(first: usize, second: usize) -> Told
     ensures { λ r. ⌜ r ≡ accepted first second ⌝ }
@@ -164,6 +165,15 @@ pub extern "C" fn scancheck_write_inputs(inputs: u16, numbers: &[u16], buf: &mut
     ensures leaves { λ _. ⌜ now (buf .exit) ≡ writeLeaves (inputsGrammar inputs) (now (numbers .entry)) (now (buf .entry)) ⌝ }
 {
     tell_answer(table::write_inputs(inputs, numbers, buf))
+}
+
+// A requirement's translation as its code: how many bytes.
+#[no_mangle]
+pub extern "C" fn scancheck_translate(code: &[u8], out: &mut [u8]) -> Told
+    ensures answers { λ r. ⌜ r ≡ answerTold (translated (now (code .entry)) (now (out .entry))) ⌝ }
+    ensures leaves { λ _. ⌜ now (out .exit) ≡ translateLeaves (now (code .entry)) (now (out .entry)) ⌝ }
+{
+    tell_answer(translate::translate(code, out))
 }
 
 // Where in a sheet the body of a name begins and ends.

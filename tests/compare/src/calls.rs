@@ -19,6 +19,7 @@ extern "C" {
     fn scancheck_write_table(numbers: *const u16, count: usize, buf: *mut u8, room: usize) -> Told;
     fn scancheck_read_inputs(inputs: u16, code: *const u8, length: usize, out: *mut u16, room: usize) -> Told;
     fn scancheck_write_inputs(inputs: u16, numbers: *const u16, count: usize, buf: *mut u8, room: usize) -> Told;
+    fn scancheck_translate(code: *const u8, length: usize, out: *mut u8, room: usize) -> Told;
     fn scancheck_find(sheet: *const u8, length: usize, name: *const u8, name_length: usize) -> Told;
 }
 
@@ -56,6 +57,10 @@ pub fn read_inputs(inputs: u16, code: &[u8], out: &mut [u16]) -> Told {
 
 pub fn write_inputs(inputs: u16, numbers: &[u16], buf: &mut [u8]) -> Told {
     unsafe { scancheck_write_inputs(inputs, numbers.as_ptr(), numbers.len(), buf.as_mut_ptr(), buf.len()) }
+}
+
+pub fn translate(code: &[u8], out: &mut [u8]) -> Told {
+    unsafe { scancheck_translate(code.as_ptr(), code.len(), out.as_mut_ptr(), out.len()) }
 }
 
 pub fn find(sheet: &[u8], name: &[u8]) -> Told {

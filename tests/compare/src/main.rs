@@ -13,7 +13,7 @@ use second::code::Code;
 use second::random::{self, Random};
 use second::refusal::Refusal;
 use second::requirement::Which;
-use second::{inputs, number, requirement, sheet, table};
+use second::{inputs, number, requirement, sheet, table, translation};
 use tally::Tally;
 
 /// What every refusal number of the readers and writers must have shown by the end of a run of full length.
@@ -28,6 +28,7 @@ const MUST_REACH: &[(&str, &[u64])] = &[
     ("read inputs", &[0, 1, 2, 10]),
     ("write inputs", &[0, 1, 2, 10]),
     ("find", &[0, 1, 2, 11]),
+    ("translate", &[0, 1, 3, 4, 10]),
 ];
 
 fn main() {
@@ -59,7 +60,8 @@ fn from_clock() -> u64 {
 }
 
 fn compare_one(random: &mut Random, tally: &mut Tally) -> Result<(), String> {
-    match random.below(8) {
+    match random.below(9) {
+        8 => translations(random, tally),
         0 => numbers(random, tally),
         1 | 2 => requirements(random, tally),
         3..=5 => tables(random, tally),
@@ -254,6 +256,26 @@ fn sheets(random: &mut Random, tally: &mut Tally) -> Result<(), String> {
         let wanted = told(sheet::look_up(&bytes, &name).map(|body| (body.begin as u64, body.end as u64)));
         same("find", &given, &wanted, &(&bytes, &name))?;
         tally.note("find", given.refusal);
+    }
+    Ok(())
+}
+
+/// A translation, and that it is accepted as a translated requirement.
+fn translations(random: &mut Random, tally: &mut Tally) -> Result<(), String> {
+    let made = if random.once_in(6) {
+        random::requirement_past_limit(random, Which::Untranslated)
+    } else {
+        random::requirement(random, Which::Untranslated)
+    };
+    let code = bytes_of(random, &made);
+    let (mut mine, mut theirs) = byte_buffers(random, translation::ROOM);
+    let given = calls::translate(&code, &mut mine);
+    let wanted = counted(translation::translate(&code, &mut theirs));
+    same("translate", &(given, mine.clone()), &(wanted, theirs), &code)?;
+    tally.note("translate", given.refusal);
+    if given.refusal == 0 {
+        let read = calls::check_requirement(true, &mine[..given.first as usize]);
+        same("check of a translation", &read.refusal, &0, &code)?;
     }
     Ok(())
 }

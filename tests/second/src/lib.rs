@@ -7,6 +7,8 @@
 
 pub mod code;
 pub mod inputs;
+pub mod judging;
+pub mod meaning;
 pub mod number;
 pub mod random;
 pub mod refusal;
@@ -14,6 +16,7 @@ pub mod requirement;
 pub mod sheet;
 pub mod table;
 pub mod trace;
+pub mod translation;
 
 pub use code::Code;
 pub use refusal::{Cause, Refusal};

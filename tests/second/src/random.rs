@@ -1,10 +1,15 @@
-//! Random inputs: a seeded generator, makers of well-formed codes, sheets and traces, and damagers of them.
+//! Random inputs: a seeded generator, makers of well-formed codes, sheets, traces and whole cases, and damagers of
+//! them.
 //!
 //! The same seed gives the same inputs.
 
+use crate::code::{bytes_of_numbers, Code};
+use crate::judging::{list_needed, work_needed};
+use crate::meaning::{truth_by_position, EndlessRun};
 use crate::number::spelled;
-use crate::requirement::Which;
+use crate::requirement::{check_requirement, Which};
 use crate::trace::{may_follow, EXE, INPUT, OUTPUT};
+use crate::translation::{translated_numbers, ROOM};
 
 // ---------------------------------------------------------------------------------------------------------------------
 // The generator
@@ -532,7 +537,7 @@ fn entry_body(random: &mut Random) -> Vec<u8> {
         1..=4 => random.between(120, 300),
         5..=20 => 0,
         21..=40 => random.between(1, 12),
-        _ => return crate::code::bytes_of_numbers(&requirement(random, Which::Untranslated)),
+        _ => return bytes_of_numbers(&requirement(random, Which::Untranslated)),
     };
     random.bytes(length)
 }
@@ -618,6 +623,335 @@ pub fn damage_trace(random: &mut Random, made: &mut MadeTrace) {
         4 => made.trace.truncate(random.below(made.trace.len() + 1)),
         _ => damage_bytes(random, &mut made.trace),
     }
+}
+
+// ---------------------------------------------------------------------------------------------------------------------
+// Judging
+// ---------------------------------------------------------------------------------------------------------------------
+
+/// Atoms that are set with thought; the requirements that are judged have mostly these alone.
+const FEW_ATOMS: usize = 3;
+
+/// A requirement whose truth varies, as numbers: mostly small and over few atoms, now and then of any size, seldom over
+/// all 32 atoms.
+pub fn judged_requirement(random: &mut Random, which: Which) -> Vec<u16> {
+    let mut numbers = match random.below(8) {
+        0 => requirement(random, which),
+        1 | 2 if which == Which::Translated => translated_requirement(random),
+        1..=3 => {
+            let nodes = random.between(6, 20);
+            requirement_of(random, which, nodes, 16, false)
+        }
+        _ => {
+            let nodes = random.between(1, 6);
+            requirement_of(random, which, nodes, nodes, false)
+        }
+    };
+    if !random.once_in(12) {
+        let atoms = random.between(1, FEW_ATOMS);
+        keep_atoms_below(&mut numbers, atoms as u16);
+    }
+    numbers
+}
+
+/// The translation of a requirement, as numbers.
+fn translated_requirement(random: &mut Random) -> Vec<u16> {
+    let numbers = judged_requirement(random, Which::Untranslated);
+    let requirement = check_requirement(Code::Numbers(&numbers), Which::Untranslated).expect("well-formed");
+    translated_numbers(&requirement.tree)
+}
+
+/// Makes every atom of a well-formed requirement one below `bound`.
+pub fn keep_atoms_below(numbers: &mut [u16], bound: u16) {
+    let mut index = 0;
+    while index < numbers.len() {
+        if numbers[index] == 0 {
+            index += 1;
+            numbers[index] %= bound;
+        }
+        index += 1;
+    }
+}
+
+/// What is asked of a lasso besides being well-formed.
+#[derive(Clone, Copy, Debug, PartialEq, Eq)]
+pub enum Shape {
+    Any,
+    /// Every position is in the loop.
+    NoPrefix,
+    /// At least an Input before the loop.
+    InputBeforeLoop,
+    /// So that the second of the input sequence is a lap after the first.
+    OneInputInLoop,
+    /// The position to which the last one goes back has that phase.
+    LoopStartAt(u8),
+    /// "Position 0 may have any phase."
+    FirstPosition(u8),
+}
+
+pub const SHAPES: [Shape; 10] = [
+    Shape::Any,
+    Shape::NoPrefix,
+    Shape::InputBeforeLoop,
+    Shape::OneInputInLoop,
+    Shape::LoopStartAt(INPUT),
+    Shape::LoopStartAt(EXE),
+    Shape::LoopStartAt(OUTPUT),
+    Shape::FirstPosition(INPUT),
+    Shape::FirstPosition(EXE),
+    Shape::FirstPosition(OUTPUT),
+];
+
+/// Has the lasso that shape?
+pub fn has_shape(phases: &[u8], loop_start: usize, shape: Shape) -> bool {
+    let inputs_in_loop = phases[loop_start..].iter().filter(|phase| **phase == INPUT).count();
+    match shape {
+        Shape::Any => true,
+        Shape::NoPrefix => loop_start == 0,
+        Shape::InputBeforeLoop => phases[..loop_start].contains(&INPUT),
+        Shape::OneInputInLoop => inputs_in_loop == 1,
+        Shape::LoopStartAt(phase) => phases[loop_start] == phase,
+        Shape::FirstPosition(phase) => phases[0] == phase,
+    }
+}
+
+/// A small lasso of any of the shapes, with few atoms set.
+pub fn small_lasso(random: &mut Random) -> MadeTrace {
+    let shape = random.pick(&SHAPES);
+    lasso_of_shape(random, shape, 14)
+}
+
+/// A lasso of that shape and of at most so many positions (at least 6), with few atoms set.
+pub fn lasso_of_shape(random: &mut Random, shape: Shape, most_positions: usize) -> MadeTrace {
+    let (phases, loop_start) = phases_of_shape(random, shape, 3, most_positions);
+    let rows = atom_rows(random, phases.len());
+    MadeTrace { trace: trace_of_rows(random, &phases, &rows), loop_start }
+}
+
+/// A lasso of exactly 4,096 positions, with few atoms set.
+pub fn long_lasso(random: &mut Random) -> MadeTrace {
+    let shape = random.pick(&[Shape::Any, Shape::NoPrefix, Shape::InputBeforeLoop]);
+    let (phases, loop_start) = phases_of_shape(random, shape, 4096, 4096);
+    let rows = atom_rows(random, phases.len());
+    MadeTrace { trace: trace_of_rows(random, &phases, &rows), loop_start }
+}
+
+/// The phases and the loop start of a lasso of that shape.
+fn phases_of_shape(random: &mut Random, shape: Shape, least: usize, most: usize) -> (Vec<u8>, usize) {
+    loop {
+        let count = random.between(least, most);
+        let phases = phases(random, count);
+        let mut starts = loop_starts(&phases);
+        starts.retain(|start| has_shape(&phases, *start, shape));
+        if !starts.is_empty() {
+            let loop_start = random.pick(&starts);
+            return (phases, loop_start);
+        }
+    }
+}
+
+/// Where each of the few atoms is set.
+fn atom_rows(random: &mut Random, count: usize) -> Vec<Vec<bool>> {
+    (0..FEW_ATOMS).map(|_| atom_row(random, count)).collect()
+}
+
+/// An atom at one position, at all but one, along a stretch, or here and there.
+fn atom_row(random: &mut Random, count: usize) -> Vec<bool> {
+    let chosen = random.below(count);
+    let end = random.between(chosen, count);
+    let times = random.pick(&[2, 2, 3, 8]);
+    let kind = random.below(8);
+    let mut row = Vec::new();
+    for position in 0..count {
+        row.push(match kind {
+            0 | 1 => position == chosen,
+            2 => position != chosen,
+            3 => chosen <= position && position < end,
+            4 => !random.once_in(times),
+            _ => random.once_in(times),
+        });
+    }
+    row
+}
+
+/// Five bytes for each position: row k is atom k. The atoms without a row are 0 at every position, or any.
+fn trace_of_rows(random: &mut Random, phases: &[u8], rows: &[Vec<bool>]) -> Vec<u8> {
+    let others_any = random.once_in(3);
+    let mut trace = Vec::new();
+    for (position, phase) in phases.iter().enumerate() {
+        let mut atoms = if others_any { random.next() as u32 } else { 0 };
+        for (atom, row) in rows.iter().enumerate() {
+            atoms &= !(1 << atom);
+            atoms |= (row[position] as u32) << atom;
+        }
+        trace.push(*phase);
+        trace.extend(atoms.to_le_bytes());
+    }
+    trace
+}
+
+/// A requirement, as numbers, and a lasso.
+#[derive(Clone, Debug, PartialEq, Eq)]
+pub struct MadeQuestion {
+    pub numbers: Vec<u16>,
+    pub lasso: MadeTrace,
+}
+
+/// A requirement and a small lasso on which its truth mostly varies from position to position.
+pub fn small_question(random: &mut Random, which: Which) -> MadeQuestion {
+    let lasso = small_lasso(random);
+    let mut numbers = judged_requirement(random, which);
+    for _ in 0..random.below(8) {
+        if truth_varies(&numbers, which, &lasso) {
+            break;
+        }
+        numbers = judged_requirement(random, which);
+    }
+    MadeQuestion { numbers, lasso }
+}
+
+fn truth_varies(numbers: &[u16], which: Which, lasso: &MadeTrace) -> bool {
+    let requirement = check_requirement(Code::Numbers(numbers), which).expect("well-formed");
+    let run = EndlessRun::new(&lasso.trace, lasso.loop_start).expect("well-formed");
+    let truth = truth_by_position(&requirement.tree, &run);
+    truth.contains(&true) && truth.contains(&false)
+}
+
+/// "An until that is granted by going round the loop for ever": a0 until a1, of any family, where a0 is everywhere and
+/// a1 nowhere in the loop.
+pub fn until_never_fulfilled(random: &mut Random) -> MadeQuestion {
+    let shape = random.pick(&SHAPES);
+    let (phases, loop_start) = phases_of_shape(random, shape, 3, 14);
+    let everywhere = vec![true; phases.len()];
+    let mut nowhere_in_loop = vec![false; phases.len()];
+    for position in 0..loop_start {
+        nowhere_in_loop[position] = random.once_in(4);
+    }
+    let trace = trace_of_rows(random, &phases, &[everywhere, nowhere_in_loop]);
+    let until = random.pick(&[11, 15, 19, 23]);
+    MadeQuestion { numbers: vec![until, 0, 0, 0, 1], lasso: MadeTrace { trace, loop_start } }
+}
+
+/// "Walking the loop once only, so that F misses what lies before the join": F, F^i or F^o of a0, where a0 is at one
+/// position alone. The loop holds it, and goes on after it.
+pub fn met_across_the_join(random: &mut Random) -> MadeQuestion {
+    let (finally, wanted) = random.pick(&[(9, None), (17, Some(INPUT)), (21, Some(OUTPUT))]);
+    loop {
+        let shape = random.pick(&SHAPES);
+        let (phases, loop_start) = phases_of_shape(random, shape, 3, 14);
+        let mut positions: Vec<usize> = (loop_start..phases.len() - 1).collect();
+        positions.retain(|position| wanted.is_none() || wanted == Some(phases[*position]));
+        if positions.is_empty() {
+            continue;
+        }
+        let met = random.pick(&positions);
+        let row = (0..phases.len()).map(|position| position == met).collect();
+        let trace = trace_of_rows(random, &phases, &[row]);
+        return MadeQuestion { numbers: vec![finally, 0, 0], lasso: MadeTrace { trace, loop_start } };
+    }
+}
+
+/// All that judging is given.
+#[derive(Clone, Debug, PartialEq, Eq)]
+pub struct JudgingCase {
+    pub which: Which,
+    pub code: Vec<u8>,
+    pub trace: Vec<u8>,
+    pub loop_start: usize,
+    /// The lent buffers, with any bytes in them.
+    pub work: Vec<u8>,
+    pub list: Vec<u8>,
+}
+
+/// A well-formed requirement, a well-formed lasso, and buffers that are mostly long enough.
+pub fn judging_case(random: &mut Random) -> JudgingCase {
+    let which = any_which(random);
+    let question = match random.below(16) {
+        0 if which == Which::Untranslated => until_never_fulfilled(random),
+        1 if which == Which::Untranslated => met_across_the_join(random),
+        _ => small_question(random, which),
+    };
+    judging_case_of(random, which, question)
+}
+
+/// The same on 4,096 positions.
+pub fn long_judging_case(random: &mut Random) -> JudgingCase {
+    let which = any_which(random);
+    let numbers = judged_requirement(random, which);
+    let lasso = long_lasso(random);
+    judging_case_of(random, which, MadeQuestion { numbers, lasso })
+}
+
+fn any_which(random: &mut Random) -> Which {
+    random.pick(&[Which::Untranslated, Which::Untranslated, Which::Untranslated, Which::Translated])
+}
+
+fn judging_case_of(random: &mut Random, which: Which, question: MadeQuestion) -> JudgingCase {
+    let requirement = check_requirement(Code::Numbers(&question.numbers), which).expect("well-formed");
+    let MadeTrace { trace, loop_start } = question.lasso;
+    let work = lent_buffer(random, work_needed(requirement.depth, trace.len() / 5));
+    let list = lent_buffer(random, list_needed(&trace));
+    JudgingCase { which, code: bytes_of_numbers(&question.numbers), trace, loop_start, work, list }
+}
+
+/// A judging case in which the requirement, the trace or both are damaged, or the other kind of requirement is told.
+pub fn damaged_judging_case(random: &mut Random) -> JudgingCase {
+    let mut case = judging_case(random);
+    let damage = random.below(8);
+    if damage <= 3 {
+        case.code = damaged_requirement(random, &case.code, case.which);
+    }
+    if damage >= 2 && damage <= 6 {
+        let mut made = MadeTrace { trace: case.trace, loop_start: case.loop_start };
+        damage_trace(random, &mut made);
+        case.trace = made.trace;
+        case.loop_start = made.loop_start;
+    }
+    if damage == 7 {
+        case.which = if case.which == Which::Translated { Which::Untranslated } else { Which::Translated };
+    }
+    case
+}
+
+/// The bytes of a well-formed requirement, damaged.
+fn damaged_requirement(random: &mut Random, code: &[u8], which: Which) -> Vec<u8> {
+    let requirement = check_requirement(Code::Bytes(code), which).expect("well-formed");
+    damaged_bytes(random, &pieces_of_numbers(&requirement.numbers))
+}
+
+/// A lent buffer of which `needed` bytes are needed: one byte short, exact or longer, seldom empty.
+pub fn lent_buffer(random: &mut Random, needed: usize) -> Vec<u8> {
+    let length = match random.below(16) {
+        0 => 0,
+        1 | 2 => needed.saturating_sub(1),
+        3..=8 => needed,
+        9 => needed + 1,
+        _ => needed + random.below(40),
+    };
+    random.bytes(length)
+}
+
+/// All that translating is given.
+#[derive(Clone, Debug, PartialEq, Eq)]
+pub struct TranslatingCase {
+    pub code: Vec<u8>,
+    /// The lent buffer, with any bytes in it.
+    pub buffer: Vec<u8>,
+}
+
+/// A requirement, now and then damaged or past a limit, and a buffer around the 1,408 bytes asked for.
+pub fn translating_case(random: &mut Random) -> TranslatingCase {
+    let numbers = match random.below(8) {
+        0 => requirement_past_limit(random, Which::Untranslated),
+        1..=3 => requirement(random, Which::Untranslated),
+        _ => judged_requirement(random, Which::Untranslated),
+    };
+    let code = if random.once_in(4) {
+        damaged_bytes(random, &pieces_of_numbers(&numbers))
+    } else {
+        bytes_of_numbers(&numbers)
+    };
+    TranslatingCase { code, buffer: lent_buffer(random, ROOM) }
 }
 
 // ---------------------------------------------------------------------------------------------------------------------

@@ -67,7 +67,8 @@ pub enum Node {
 }
 
 impl Node {
-    fn operands(&self) -> Vec<&Node> {
+    /// Its operands, in the order of its code.
+    pub fn operands(&self) -> Vec<&Node> {
         match self {
             Node::Atom(_) | Node::Mark(_) => vec![],
             Node::Not(f) | Node::X(_, f) | Node::F(_, f) | Node::G(_, f) => vec![f],

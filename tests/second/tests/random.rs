@@ -4,10 +4,11 @@ use std::collections::{BTreeMap, BTreeSet};
 
 use second::code::bytes_of_numbers;
 use second::inputs::{check_inputs, read_inputs, write_inputs};
+use second::judging::{list_needed, work_needed};
 use second::number::{read_number, spelled};
-use second::random::{self as make, Field, Random};
+use second::random::{self as make, Field, MadeTrace, Random};
 use second::requirement::Which::{Translated, Untranslated};
-use second::requirement::{check_requirement, read_requirement, write_requirement, Which};
+use second::requirement::{check_requirement, read_requirement, write_requirement, Node, Which};
 use second::sheet::{check_sheet, look_up};
 use second::table::{check_table, read_table, write_table, MOST_PROCESSES};
 use second::trace::check_trace;
@@ -460,4 +461,121 @@ fn damaged_traces() {
         (Cause::Phase, 40),
         (Cause::NoOutputInLoop, 20),
     ]);
+}
+
+// ---------------------------------------------------------------------------------------------------------------------
+// Judging
+// ---------------------------------------------------------------------------------------------------------------------
+
+/// The atoms of a well-formed requirement.
+fn atoms_of(node: &Node) -> BTreeSet<u16> {
+    let mut atoms: BTreeSet<u16> = node.operands().into_iter().flat_map(atoms_of).collect();
+    if let Node::Atom(atom) = node {
+        atoms.insert(*atom);
+    }
+    atoms
+}
+
+#[test]
+fn judged_requirements() {
+    for which in [Untranslated, Translated] {
+        let mut random = Random::new(28);
+        let mut few = 0;
+        let mut all = BTreeSet::new();
+        let mut tags = BTreeSet::new();
+        let mut largest = 0;
+        for _ in 0..2000 {
+            let numbers = make::judged_requirement(&mut random, which);
+            let requirement = check_requirement(Code::Numbers(&numbers), which).expect("well-formed");
+            let atoms = atoms_of(&requirement.tree);
+            few += usize::from(atoms.iter().all(|atom| *atom < 3));
+            all.extend(atoms);
+            tags.extend(numbers);
+            largest = largest.max(requirement.node_count);
+        }
+        assert!(few > 1700, "{few} over few atoms");
+        assert_eq!(all, (0..32).collect());
+        assert!((8..=which.highest_tag()).all(|tag| tags.contains(&tag)));
+        assert_eq!(largest, which.most_nodes());
+    }
+}
+
+/// The atom's truth at every position.
+fn row(made: &MadeTrace, atom: usize) -> Vec<bool> {
+    made.trace.chunks(5).map(|position| position[1] >> atom & 1 == 1).collect()
+}
+
+#[test]
+fn small_and_long_lassos() {
+    let mut random = Random::new(29);
+    let mut shapes = BTreeSet::new();
+    let mut at_one_position = 0;
+    for _ in 0..1000 {
+        let made = make::small_lasso(&mut random);
+        let count = check_trace(&made.trace, made.loop_start).expect("well-formed");
+        assert!(3 <= count && count <= 14);
+        shapes.insert((made.trace[0], made.trace[5 * made.loop_start], made.loop_start > 0));
+        at_one_position += usize::from(row(&made, 0).iter().filter(|truth| **truth).count() == 1);
+    }
+    // Every phase at position 0 and at the loop start; without a part before the loop the two are the same.
+    assert_eq!(shapes.len(), 9 + 3);
+    assert!(at_one_position > 200, "{at_one_position} only");
+    let mut starts = BTreeSet::new();
+    for _ in 0..20 {
+        let made = make::long_lasso(&mut random);
+        assert_eq!(check_trace(&made.trace, made.loop_start), Ok(4096));
+        starts.insert(made.loop_start);
+    }
+    assert!(starts.contains(&0) && starts.len() > 10);
+}
+
+#[test]
+fn questions_with_a_slip_in_mind() {
+    let mut random = Random::new(30);
+    let mut operators = BTreeSet::new();
+    for _ in 0..500 {
+        let until = make::until_never_fulfilled(&mut random);
+        let lasso = &until.lasso;
+        assert_eq!(check_trace(&lasso.trace, lasso.loop_start), Ok(lasso.trace.len() / 5));
+        assert!(!row(lasso, 0).contains(&false));
+        assert!(!row(lasso, 1)[lasso.loop_start..].contains(&true));
+        operators.insert(until.numbers[0]);
+
+        let finally = make::met_across_the_join(&mut random);
+        let lasso = &finally.lasso;
+        let count = check_trace(&lasso.trace, lasso.loop_start).expect("well-formed");
+        let met: Vec<usize> = (0..count).filter(|position| row(lasso, 0)[*position]).collect();
+        assert!(met.len() == 1 && lasso.loop_start <= met[0] && met[0] + 1 < count);
+        operators.insert(finally.numbers[0]);
+    }
+    assert_eq!(operators, BTreeSet::from([9, 11, 15, 17, 19, 21, 23]));
+}
+
+/// One byte short, exact and longer.
+#[test]
+fn lent_buffers() {
+    let mut random = Random::new(31);
+    let lengths: BTreeSet<usize> = (0..500).map(|_| make::lent_buffer(&mut random, 100).len()).collect();
+    for length in [0, 99, 100, 101, 130] {
+        assert!(lengths.contains(&length), "{length}");
+    }
+}
+
+/// Which checks the made cases of judging come to: both kinds, all accepted or too short by one.
+#[test]
+fn judging_cases() {
+    let mut random = Random::new(32);
+    let mut kinds = [0, 0];
+    let mut work_short_by_one = 0;
+    let mut list_short_by_one = 0;
+    for _ in 0..2000 {
+        let case = make::judging_case(&mut random);
+        let requirement = check_requirement(Code::Bytes(&case.code), case.which).expect("well-formed");
+        let count = check_trace(&case.trace, case.loop_start).expect("well-formed");
+        kinds[usize::from(case.which == Translated)] += 1;
+        work_short_by_one += usize::from(case.work.len() + 1 == work_needed(requirement.depth, count));
+        list_short_by_one += usize::from(case.list.len() + 1 == list_needed(&case.trace));
+    }
+    assert!(kinds[0] > 1200 && kinds[1] > 300, "{kinds:?}");
+    assert!(work_short_by_one > 100 && list_short_by_one > 100);
 }
