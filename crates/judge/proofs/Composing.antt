@@ -1,0 +1,86 @@
+-- Rows in the work: a phase's bytes and its mark, an operator over rows that agree, and the first or the second row lent alone.
+-- Assumes nothing.
+use Prim.Native.Nat.{ℕ, zero, suc, _+_, _-_, _*_, _/_, _<_, _≤_}
+use mathlib.Core.Path.{_≡_, refl, ap, _∙_}
+use mathlib.Core.Bool.{Bool, not, _&&_, and-comm, decide}
+use mathlib.Core.List.{List}
+use mathlib.Core.Logic.{⊎-elim}
+use native.Mathlib.Nat.{eq-or-lt-of-le}
+use native.Mathlib.Omega.{arith}
+use lib.ListN.{length, take, drop}
+use lib.Seq.{getD-take}
+use lib.Dec.{eqb}
+use borrow.Author.Tests.{lt-ltb, le-ltb}
+use borrow.Rule.Slice.PartMut.{midOf, putMid, mid-len, drop-put}
+use Rattle.requirement.specs.declared.Phase.{Phase}
+use Rattle.requirement.specs.declared.Phase.the-variants.{Input, Exe, Output}
+use Rattle.meaning.specs.Phases.{Phase-discrete}
+use Rattle.meaning.specs.Rows.{rowed}
+use Rattle.bits.specs.Bits.{bitAt}
+use Rattle.bits.specs.Rows.{afterOf}
+use Rattle.bits.proofs.Bytes.{same-bits, part-before, part-is}
+use Rattle.bits.proofs.Walks.{until-same}
+use Rattle.lasso.specs.Bytes.{positions, phaseFrom, phaseByte, markB, traceOf}
+use Rattle.judge.specs.Working.{Same, Room, phaseNumber, isAt}
+
+-- ---- a phase by its byte
+
+byte-is : (b : ℕ) (phase : Phase) → b ≤ 2 → eqb b (phaseNumber phase) ≡ decide (Phase-discrete (phaseFrom b) phase)
+unfolding decide
+byte-is zero Input h = refl
+byte-is zero Exe h = refl
+byte-is zero Output h = refl
+byte-is (suc zero) Input h = refl
+byte-is (suc zero) Exe h = refl
+byte-is (suc zero) Output h = refl
+byte-is (suc (suc zero)) Input h = refl
+byte-is (suc (suc zero)) Exe h = refl
+byte-is (suc (suc zero)) Output h = refl
+byte-is (suc (suc (suc b))) phase h = absurd (omega arith)
+
+pub mark-is : {k : ℕ} {t : List ℕ} {start : ℕ} {w : List ℕ} → Room k t start w → (phase : Phase) (m : ℕ) → m ≡ phaseNumber phase → Same (positions t) (markB t m) (isAt t phase)
+unfolding markB
+mark-is {t = t} h phase m e p l = rw e (byte-is (phaseByte t p) phase (h .phases p l))
+
+-- ---- operators over rows that agree
+
+module _ {k : ℕ} {t : List ℕ} {start : ℕ} {w : List ℕ} (h : Room k t start w) where
+  pub after-below : (p : ℕ) → p < positions t → afterOf (positions t) start p < positions t
+  after-below p l =
+      ⊎-elim (λ e. rw (le-ltb (suc p) (positions t) (omega arith)) (h .inside)) (λ (m : suc p < positions t). rw (lt-ltb (suc p) (positions t) m) m) (eq-or-lt-of-le l)
+
+  pub until-of : {r u v f g : ℕ → Bool} → Same (positions t) r (rowed (traceOf t start) .U u v) → Same (positions t) u f → Same (positions t) v g
+      → Same (positions t) r (rowed (traceOf t start) .U f g)
+  until-of {r} {u} {v} {f} {g} e eu ev p l = e p l ∙ until-same (positions t) start f g u v (h .inside) eu ev p l
+
+-- A row kept where a phase is, the phase first; and turned, kept and turned again: the phase implies the row.
+module _ (t : List ℕ) (phase : Phase) (w : List ℕ) (p : ℕ) where
+  pub kept : (bitAt w p && isAt t phase p) ≡ (isAt t phase p && bitAt w p)
+  kept = and-comm (bitAt w p) (isAt t phase p)
+
+  pub implied : not (not (bitAt w p) && isAt t phase p) ≡ not (isAt t phase p && not (bitAt w p))
+  implied = ap not (and-comm (not (bitAt w p)) (isAt t phase p))
+
+-- ---- one row of two lent alone, and back as x
+
+was : (k : ℕ) (s : List ℕ) (p : ℕ) → p < 8 * k → bitAt (take k s) p ≡ bitAt s p
+was k s p l = same-bits (take k s) s p (getD-take k s (p / 8) 0 (omega arith))
+
+module _ (n r : ℕ) (w : List ℕ) (hn : n ≤ 8 * r) (hr : r + r ≤ length w) where
+  pub first-was : Same n (bitAt (midOf 0 (r - 0) w)) (bitAt w)
+  first-was p l = was (r - 0) w p (omega arith)
+
+  pub second-was : Same n (bitAt (midOf r (length w - r) w)) (bitAt (drop r w))
+  second-was p l = was (length w - r) (drop r w) p (omega arith)
+
+  pub first-back : (x : List ℕ) (f : ℕ → Bool) → length x ≡ length (midOf 0 (r - 0) w) → Same n (bitAt x) f
+      → Same n (bitAt (putMid 0 (r - 0) w x)) f × (drop r (putMid 0 (r - 0) w x) ≡ drop r w)
+  first-back x f k e =
+      let q : length x ≡ r - 0 = k ∙ mid-len 0 r w (omega arith) in
+      (λ p l. part-is 0 (r - 0) w x (omega arith) p (omega arith) ∙ e p l, drop-put 0 r w x (omega arith) (omega arith) q)
+
+  pub second-back : (x : List ℕ) (f : ℕ → Bool) → length x ≡ length (midOf r (length w - r) w) → Same n (bitAt x) f
+      → Same n (bitAt (putMid r (length w - r) w x)) (bitAt w) × Same n (bitAt (drop r (putMid r (length w - r) w x))) f
+  second-back x f k e =
+      let q : length x ≡ length w - r = k ∙ mid-len r (length w) w (omega arith) in
+      (λ p l. part-before r (length w - r) w x (omega arith) p (omega arith), λ p l. part-is r (length w - r) w x (omega arith) p (omega arith) ∙ e p l)

@@ -1,0 +1,28 @@
+use mathlib.Core.Path.{refl, ap, _∙_}
+use mathlib.Core.Bool.{not}
+use Rattle.judge.proofs.Composing.{until-of}
+use borrow.Author.Needs.{needs}
+use Rattle.judge.proofs.operators.always.Statement.{statement}
+use Rattle.judge.proofs.operators.always.Tie as tie
+use Rattle.judge.proofs.operators.always.Reads as reads
+use Rattle.judge.proofs.operators.always.Lts as lts
+use Rattle.judge.proofs.operators.ever.Reads as ever-reads
+use Rattle.judge.proofs.operators.turn.Reads as turn-reads
+
+turn-requires : tie.Need-turn-requires
+turn-requires c κs = search needs
+
+ever-requires : tie.Need-ever-requires
+ever-requires c κs = search needs
+
+turn-requires-2 : tie.Need-turn-requires-2
+turn-requires-2 c κs = search needs
+
+same-length : tie.Need-same-length
+same-length c = search needs
+
+returns : tie.Need-returns
+returns c = λ p h. c .before .before .turn2 .ensures p h ∙ ap not (until-of (c .before .before .before .before .before .before .before .before .before .before .before .before .before .before .pre) (c .before .before .before .before .before .before .ever .ensures) (λ q l. refl) (c .before .before .before .before .before .before .before .before .before .before .turn .ensures) p h)
+
+pub always-spec : {M : Type 1} → statement M
+always-spec = tie.close (tie.spec turn-requires ever-requires turn-requires-2 same-length returns)

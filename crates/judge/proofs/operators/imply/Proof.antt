@@ -1,0 +1,30 @@
+use mathlib.Core.Path.{ap, _∙_}
+use mathlib.Core.Bool.{Bool, not, _&&_}
+use Rattle.judge.specs.Working.{isAt}
+use Rattle.judge.proofs.Composing.{implied}
+use borrow.Author.Needs.{needs}
+use Rattle.judge.proofs.operators.imply.Statement.{statement}
+use Rattle.judge.proofs.operators.imply.Tie as tie
+use Rattle.judge.proofs.operators.imply.Reads as reads
+use Rattle.judge.proofs.operators.imply.Lts as lts
+use Rattle.judge.proofs.operators.keep.Reads as keep-reads
+use Rattle.judge.proofs.operators.turn.Reads as turn-reads
+
+turn-requires : tie.Need-turn-requires
+turn-requires c κs = search needs
+
+keep-requires : tie.Need-keep-requires
+keep-requires c κs = search needs
+
+turn-requires-2 : tie.Need-turn-requires-2
+turn-requires-2 c κs = search needs
+
+same-length : tie.Need-same-length
+same-length c = search needs
+
+returns : tie.Need-returns
+returns c = let a = c .before .before .before .before .before .before .before .before .before .before .before .before .before .before .args in
+    λ p h. c .before .before .turn2 .ensures p h ∙ ap not (c .before .before .before .before .before .before .keep .ensures p h ∙ ap (λ (b : Bool). b && isAt a.trace.now a.phase p) (c .before .before .before .before .before .before .before .before .before .before .turn .ensures p h)) ∙ implied a.trace.now a.phase a.work.now p
+
+pub imply-spec : {M : Type 1} → statement M
+imply-spec = tie.close (tie.spec turn-requires keep-requires turn-requires-2 same-length returns)

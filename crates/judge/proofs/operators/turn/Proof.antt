@@ -1,0 +1,22 @@
+use native.Mathlib.Omega.{arith}
+use borrow.Author.Needs.{needs}
+use Rattle.judge.proofs.operators.turn.Statement.{statement}
+use Rattle.judge.proofs.operators.turn.Tie as tie
+use Rattle.judge.proofs.operators.turn.Reads as reads
+use Rattle.judge.proofs.operators.turn.Lts as lts
+use Rattle.judge.proofs.rows.flip_row.Reads as flip-row-reads
+
+add-row : tie.Need-add-row
+add-row c = search needs
+
+flip-row-requires : tie.Need-flip-row-requires
+flip-row-requires c κs = search needs
+
+same-length : tie.Need-same-length
+same-length c = search needs
+
+returns : tie.Need-returns
+returns c = λ p h. c .before .before .flip-row .ensures p (omega arith)
+
+pub turn-spec : {M : Type 1} → statement M
+turn-spec = tie.close (tie.spec add-row flip-row-requires same-length returns)

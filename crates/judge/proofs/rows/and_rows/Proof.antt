@@ -1,0 +1,71 @@
+use borrow.Author.Needs.{needs}
+use mathlib.Core.Path.{_≡_, sym, _∙_}
+use mathlib.Core.Bool.{_&&_}
+use Prim.Native.Nat.{_+_, _-_, _≤_}
+use native.Mathlib.Omega.{arith}
+use lib.ListN.{getD, drop}
+use lib.Seq.{getD-drop}
+use Rattle.bits.specs.Bits.{bitAt}
+use Rattle.bits.proofs.Bytes.{packs-byte, packs-and, Made, made-none, made-more}
+use Rattle.judge.proofs.rows.and_rows.Statement.{statement}
+use Rattle.judge.proofs.rows.and_rows.Tie as tie
+use Rattle.judge.proofs.rows.and_rows.Reads as reads
+use Rattle.judge.proofs.rows.and_rows.Lts as lts
+
+abbrev Inv-loop : tie.InvT-loop
+Inv-loop work₀ n i₀ work i = (i ≤ n) × Made (λ p. bitAt work₀ p && bitAt (drop n work₀) p) work₀ i work
+
+abbrev μ-loop : tie.MeasureT-loop
+μ-loop work₀ n i₀ work i = n - i
+
+loop-holds : tie.Need-loop-holds Inv-loop μ-loop
+loop-holds c = (omega arith, made-none _ _)
+
+slice-read-work : tie.Need-slice-read-work Inv-loop μ-loop
+slice-read-work c = search needs
+
+add-work : tie.Need-add-work Inv-loop μ-loop
+add-work c = search needs
+
+slice-read-work-2 : tie.Need-slice-read-work-2 Inv-loop μ-loop
+slice-read-work-2 c = search needs
+
+slice-write-work : tie.Need-slice-write-work Inv-loop μ-loop
+slice-write-work c = search needs
+
+add-i : tie.Need-add-i Inv-loop μ-loop
+add-i c = search needs
+
+loop-less : tie.Need-loop-less Inv-loop μ-loop
+loop-less c = search needs
+
+loop-again : tie.Need-loop-again Inv-loop μ-loop
+loop-again c =
+    let l = c .before .before .before .loop in
+    let a = c .before .before .before .before .args in
+    let h = l .inv .1 in
+    let e : getD (l .work) (a .n + l .i) 0 ≡ getD (drop (a .n) (a .work .now)) (l .i) 0 = h .rest (a .n + l .i) (omega arith) ∙ sym (getD-drop (a .n) (a .work .now) (l .i) 0) in
+    (omega arith, made-more _ (omega arith) (packs-and _ _ _ (omega arith) (rw e (packs-byte (drop (a .n) (a .work .now)) (l .i) 8 (omega arith))) h) h)
+
+same-length : tie.Need-same-length Inv-loop μ-loop
+same-length c = c .before .loop .inv .1 .size
+
+returns : tie.Need-returns Inv-loop μ-loop
+returns c = λ p h. c .before .loop .inv .1 .done p (omega arith)
+
+pub and-rows-spec : {M : Type 1} → statement M
+and-rows-spec =
+    tie.close
+    (tie.spec
+    Inv-loop
+    μ-loop
+    loop-holds
+    slice-read-work
+    add-work
+    slice-read-work-2
+    slice-write-work
+    add-i
+    loop-less
+    loop-again
+    same-length
+    returns)
