@@ -1,5 +1,5 @@
 /*
- * The scan-cycle checker: reading and writing its coding, and translating requirements.
+ * The scan-cycle checker: reading and writing its coding, judging and translating requirements.
  *
  * Every function takes any bytes and any numbers, ends, and answers by the numbers of document 01. What is proved of each stands
  * in crates/interface/src/lib.rt. Nothing can check the following here, so the caller must see to it:
@@ -59,6 +59,15 @@ scancheck_told scancheck_write_inputs(uint16_t inputs, const uint16_t *numbers, 
    1,408 bytes, whatever the length), then 1, 3, 4. The rest of out stays as it was; on a refusal all of it. The answer is always accepted as a translated
    requirement, and holds at the same moments of every well-formed trace. */
 scancheck_told scancheck_translate(const uint8_t *code, size_t code_length, uint8_t *out, size_t out_length);
+
+/*
+ * A requirement, untranslated or translated, on a lasso trace (5 bytes a position) whose loop starts at position `start`. first: 1 if it holds at moment 0,
+ * else 0; second: how many findings, the Input positions at which it fails. Checks in this order: the requirement (1, 3, 4), the trace (9), then 10: work under
+ * depth times row bytes (positions over 8, rounded up), list under 2 bytes for every Input position. A refusal changes no buffer. Otherwise all of work is
+ * zero, and list begins with the findings, ascending, 2 bytes each, low byte first; its rest stays.
+ */
+scancheck_told scancheck_judge(bool translated, const uint8_t *code, size_t code_length, const uint8_t *trace, size_t trace_length, size_t start,
+                               uint8_t *work, size_t work_length, uint8_t *list, size_t list_length);
 
 /* The body of a name in a sheet. first: the place where it begins; second: the place after its end. Refusals 1, 2, 11. */
 scancheck_told scancheck_find(const uint8_t *sheet, size_t sheet_length, const uint8_t *name, size_t name_length);

@@ -60,6 +60,17 @@ int main(void) {
     expect_bytes("M11 translated", plain, m11, 13);
     expect("no room to translate", scancheck_translate(next_input, sizeof next_input, plain, 1407), 10, 1408, 0);
 
+    const uint8_t trace[] = {2, 0, 0, 0, 0, 0, 0, 0, 0, 0, 1, 0, 0, 0, 0, 1, 0, 0, 0, 0, 2, 0, 0, 0, 0, 0, 1, 0, 0, 0,
+                             1, 1, 0, 0, 0, 1, 1, 0, 0, 0, 2, 3, 0, 0, 0, 0, 2, 0, 0, 0, 1, 2, 0, 0, 0, 1, 2, 0, 0, 0};
+    uint8_t work[9] = {7, 7, 7, 7, 7, 7, 7, 7, 7};
+    uint8_t list[7] = {9, 9, 9, 9, 9, 9, 9};
+    expect("M1 judged", scancheck_judge(false, m1, sizeof m1, trace, sizeof trace, 4, work, sizeof work, list, sizeof list), 0, 1, 1);
+    expect_bytes("M1's list", list, "\x05\x00\x09\x09\x09\x09\x09", 7);
+    expect_bytes("work is zero", work, "\0\0\0\0\0\0\0\0\0", 9);
+    expect("work too short", scancheck_judge(false, m1, sizeof m1, trace, sizeof trace, 4, work, 7, list, sizeof list), 10, 8, 0);
+    expect("list too short", scancheck_judge(false, m1, sizeof m1, trace, sizeof trace, 4, work, 8, list, 5), 10, 6, 0);
+    expect("bad loop start", scancheck_judge(false, m1, sizeof m1, trace, sizeof trace, 12, work, 8, list, 6), 9, 12, 0);
+
     const uint8_t sheet[] = {2, 1, 'a', 2, 'x', 'y', 1, 'b', 0};
     expect("a", scancheck_find(sheet, sizeof sheet, (const uint8_t *)"a", 1), 0, 4, 6);
     expect("b", scancheck_find(sheet, sizeof sheet, (const uint8_t *)"b", 1), 0, 9, 9);

@@ -1,6 +1,7 @@
 -- What each C function answers and what it leaves in a lent buffer, by the definitions of the crates below.
 -- Assumes nothing: these are definitions.
 use Prim.Native.Nat.{ℕ}
+use mathlib.Core.Path.{_≡_}
 use mathlib.Core.Bool.{Bool, true, false}
 use mathlib.Core.List.{List}
 use Rattle.coding.specs.Code.{Code, codeAt, values, bytesOfAll}
@@ -9,6 +10,9 @@ use Rattle.coding.specs.Room.{readBy, writeBy, stored}
 use Rattle.coding.specs.declared.Told.{Told}
 use Rattle.coding.specs.declared.Answer.{Answer}
 use Rattle.requirement.specs.Reading.{parsed}
+use Rattle.meaning.specs.Trace.{Trace}
+use Rattle.judge.specs.Judging.{Checks, Judges, judgedTold}
+use Rattle.judge.specs.declared.Judged.{Judged}
 use Rattle.translate.specs.Writing.{translated, translation}
 use Rattle.requirement.specs.declared.Kind.{Kind}
 use Rattle.requirement.specs.declared.Kind.the-variants.{Untranslated, Translated}
@@ -34,3 +38,7 @@ writeLeaves grammar xs buf = stored (writeBy grammar xs buf) buf (bytesOfAll xs)
 -- Translating: the buffer.
 abbrev pub translateLeaves : List ℕ → List ℕ → List ℕ
 translateLeaves s out = stored (translated s out) out (translation (parsed Untranslated (codeAt s 0)))
+
+-- Judging: the answer in the paper's numbers is that of a judging as promised.
+abbrev pub JudgesTold : Checks → Trace → List ℕ → List ℕ → List ℕ → List ℕ → Told → Type 0
+JudgesTold checks t work list work′ list′ told = (r : Judged) × (told ≡ judgedTold r) × Judges checks t work list work′ list′ r

@@ -3,6 +3,7 @@ use coding::Answer;
 use coding::Cause;
 use coding::Number;
 use coding::Told;
+use judge::Judged;
 use requirement::Checked;
 use requirement::Kind;
 use sheet::Found;
@@ -15,8 +16,12 @@ ghost use Rattle.ranges.specs.Limits.{mostProcesses};
 ghost use Rattle.requirement.specs.Reading.{checked, checkedTold, grammar};
 ghost use Rattle.table.specs.Table.{tableGrammar, inputsGrammar};
 ghost use Rattle.sheet.specs.Sheet.{findIn, foundTold};
+ghost use lib.ListN.{length};
 ghost use Rattle.translate.specs.Writing.{translated};
-ghost use Rattle.interface.specs.Calls.{kindOf, readTold, readLeaves, writeTold, writeLeaves, translateLeaves};
+ghost use Rattle.bits.specs.Bits.{digit};
+ghost use Rattle.lasso.specs.Bytes.{traceOf};
+ghost use Rattle.judge.specs.Judging.{checksOf, judgedTold};
+ghost use Rattle.interface.specs.Calls.{kindOf, readTold, readLeaves, writeTold, writeLeaves, translateLeaves, JudgesTold};
 
 fn tell(first: usize, second: usize) -> Told
     ensures { λ r. ⌜ r ≡ accepted first second ⌝ }
@@ -71,6 +76,24 @@ fn tell_found(f: Found) -> Told
     match f {
         Found::Body(begin, end) => tell(begin, end),
         Found::Refused(cause, place) => tell_refusal(cause, place),
+    }
+}
+
+fn one_if(holds: bool) -> usize
+    ensures { λ r. ⌜ r ≡ digit holds ⌝ }
+{
+    if holds {
+        return 1;
+    }
+    0
+}
+
+fn tell_judged(j: Judged) -> Told
+    ensures { λ r. ⌜ r ≡ judgedTold j ⌝ }
+{
+    match j {
+        Judged::Verdict(holds, count) => tell(one_if(holds), count),
+        Judged::Refused(cause, place) => tell_refusal(cause, place),
     }
 }
 
@@ -174,6 +197,15 @@ pub extern "C" fn scancheck_translate(code: &[u8], out: &mut [u8]) -> Told
     ensures leaves { λ _. ⌜ now (out .exit) ≡ translateLeaves (now (code .entry)) (now (out .entry)) ⌝ }
 {
     tell_answer(translate::translate(code, out))
+}
+
+// Judges a requirement on a lasso trace: the verdict at moment 0, and how many findings the list then holds.
+#[no_mangle]
+pub extern "C" fn scancheck_judge(translated: bool, code: &[u8], trace: &[u8], start: usize, work: &mut [u8], list: &mut [u8]) -> Told
+    ensures { λ r. ⌜ JudgesTold (checksOf (kindOf translated) (now (code .entry)) (now (trace .entry)) start (length (now (work .entry))) (length (now (list .entry))))
+      (traceOf (now (trace .entry)) start) (now (work .entry)) (now (list .entry)) (now (work .exit)) (now (list .exit)) r ⌝ }
+{
+    tell_judged(judge::judge(kind_of(translated), code, trace, start, work, list))
 }
 
 // Where in a sheet the body of a name begins and ends.

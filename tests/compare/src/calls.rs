@@ -20,6 +20,18 @@ extern "C" {
     fn scancheck_read_inputs(inputs: u16, code: *const u8, length: usize, out: *mut u16, room: usize) -> Told;
     fn scancheck_write_inputs(inputs: u16, numbers: *const u16, count: usize, buf: *mut u8, room: usize) -> Told;
     fn scancheck_translate(code: *const u8, length: usize, out: *mut u8, room: usize) -> Told;
+    fn scancheck_judge(
+        translated: bool,
+        code: *const u8,
+        length: usize,
+        trace: *const u8,
+        trace_length: usize,
+        start: usize,
+        work: *mut u8,
+        work_length: usize,
+        list: *mut u8,
+        list_length: usize,
+    ) -> Told;
     fn scancheck_find(sheet: *const u8, length: usize, name: *const u8, name_length: usize) -> Told;
 }
 
@@ -61,6 +73,23 @@ pub fn write_inputs(inputs: u16, numbers: &[u16], buf: &mut [u8]) -> Told {
 
 pub fn translate(code: &[u8], out: &mut [u8]) -> Told {
     unsafe { scancheck_translate(code.as_ptr(), code.len(), out.as_mut_ptr(), out.len()) }
+}
+
+pub fn judge(translated: bool, code: &[u8], trace: &[u8], start: usize, work: &mut [u8], list: &mut [u8]) -> Told {
+    unsafe {
+        scancheck_judge(
+            translated,
+            code.as_ptr(),
+            code.len(),
+            trace.as_ptr(),
+            trace.len(),
+            start,
+            work.as_mut_ptr(),
+            work.len(),
+            list.as_mut_ptr(),
+            list.len(),
+        )
+    }
 }
 
 pub fn find(sheet: &[u8], name: &[u8]) -> Told {

@@ -13,7 +13,7 @@ use second::code::Code;
 use second::random::{self, Random};
 use second::refusal::Refusal;
 use second::requirement::Which;
-use second::{inputs, number, requirement, sheet, table, translation};
+use second::{inputs, judging, number, requirement, sheet, table, translation};
 use tally::Tally;
 
 /// What every refusal number of the readers and writers must have shown by the end of a run of full length.
@@ -29,6 +29,7 @@ const MUST_REACH: &[(&str, &[u64])] = &[
     ("write inputs", &[0, 1, 2, 10]),
     ("find", &[0, 1, 2, 11]),
     ("translate", &[0, 1, 3, 4, 10]),
+    ("judge", &[0, 1, 3, 4, 9, 10]),
 ];
 
 fn main() {
@@ -60,7 +61,8 @@ fn from_clock() -> u64 {
 }
 
 fn compare_one(random: &mut Random, tally: &mut Tally) -> Result<(), String> {
-    match random.below(9) {
+    match random.below(12) {
+        9..=11 => judgings(random, tally),
         8 => translations(random, tally),
         0 => numbers(random, tally),
         1 | 2 => requirements(random, tally),
@@ -276,6 +278,33 @@ fn translations(random: &mut Random, tally: &mut Tally) -> Result<(), String> {
     if given.refusal == 0 {
         let read = calls::check_requirement(true, &mine[..given.first as usize]);
         same("check of a translation", &read.refusal, &0, &code)?;
+    }
+    Ok(())
+}
+
+/// A judging of either kind; where it is accepted and untranslated, the translation's judging too must say the same.
+fn judgings(random: &mut Random, tally: &mut Tally) -> Result<(), String> {
+    let case = match random.below(2000) {
+        0 => random::long_judging_case(random),
+        1..=600 => random::damaged_judging_case(random),
+        _ => random::judging_case(random),
+    };
+    let (mut my_work, mut my_list) = (case.work.clone(), case.list.clone());
+    let (mut their_work, mut their_list) = (case.work.clone(), case.list.clone());
+    let translated = case.which == Which::Translated;
+    let given = calls::judge(translated, &case.code, &case.trace, case.loop_start, &mut my_work, &mut my_list);
+    let answer = judging::judge(case.which, &case.code, &case.trace, case.loop_start, &mut their_work, &mut their_list);
+    let wanted = told(answer.map(|judged| (judged.holds as u64, judged.findings as u64)));
+    let input = (case.which, &case.code, &case.trace, case.loop_start, case.work.len(), case.list.len());
+    same("judge", &(given, my_work, my_list.clone()), &(wanted, their_work, their_list), &input)?;
+    tally.note("judge", given.refusal);
+    if given.refusal == 0 && !translated {
+        let mut plain = vec![0; translation::ROOM];
+        let length = calls::translate(&case.code, &mut plain).first as usize;
+        let mut work = vec![1; 76 * 512];
+        let mut list = case.list.clone();
+        let again = calls::judge(true, &plain[..length], &case.trace, case.loop_start, &mut work, &mut list);
+        same("judge of the translation", &(again, list), &(given, my_list), &input)?;
     }
     Ok(())
 }
