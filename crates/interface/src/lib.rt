@@ -201,9 +201,16 @@ pub extern "C" fn scancheck_translate(code: &[u8], out: &mut [u8]) -> Told
 
 // Judges a requirement on a lasso trace: the verdict at moment 0, and how many findings the list then holds.
 #[no_mangle]
-pub extern "C" fn scancheck_judge(translated: bool, code: &[u8], trace: &[u8], start: usize, work: &mut [u8], list: &mut [u8]) -> Told
+pub extern "C" fn scancheck_judge(
+    translated: bool,
+    code: &[u8],
+    trace: &[u8],
+    start: usize,
+    work: &mut [u8],
+    list: &mut [u8],
+) -> Told
     ensures { λ r. ⌜ JudgesTold (checksOf (kindOf translated) (now (code .entry)) (now (trace .entry)) start (length (now (work .entry))) (length (now (list .entry))))
-      (traceOf (now (trace .entry)) start) (now (work .entry)) (now (list .entry)) (now (work .exit)) (now (list .exit)) r ⌝ }
+        (traceOf (now (trace .entry)) start) (now (work .entry)) (now (list .entry)) (now (work .exit)) (now (list .exit)) r ⌝ }
 {
     tell_judged(judge::judge(kind_of(translated), code, trace, start, work, list))
 }
