@@ -1,12 +1,19 @@
 -- The promises of the C functions leave no choice: two answers, and what two calls leave in a lent buffer, are equal where they satisfy one.
 -- Each is said of the function's own promise, `Post`.
 -- Assumes nothing.
-use mathlib.Core.Path.{_≡_, sym, _∙_}
+use mathlib.Core.Path.{_≡_, sym, ap, _∙_}
+use lib.ListN.{length}
 use contract.Lifetimes.{Lfts}
 use borrow.Fn.Kinds.{Dens, endedOf}
 use denote.Ref.{now}
 use denote.Triple.Clauses.{AtExit}
 use Rattle.coding.specs.declared.Told.{Told}
+use Rattle.lasso.specs.Bytes.{traceOf}
+use Rattle.judge.specs.Judging.{checksOf, judgedTold}
+use Rattle.judge.proofs.Unique.{one-judging}
+use Rattle.interface.specs.Calls.{kindOf}
+use Rattle.interface.proofs.scancheck_judge.Kinds as judge
+use Rattle.interface.proofs.scancheck_judge.Reads as judge-reads
 use Rattle.interface.proofs.scancheck_read_number.Kinds as read-number
 use Rattle.interface.proofs.scancheck_read_number.Reads as read-number-reads
 use Rattle.interface.proofs.scancheck_write_number.Kinds as write-number
@@ -75,3 +82,17 @@ module _ (κs : Lfts 2) (r t : Told) where
   pub find-unique : (a : Dens κs find.ps) (e f : AtExit (endedOf 2 find.ps find.r) κs) →
       find-reads.Post κs a r e → find-reads.Post κs a t f → r ≡ t
   find-unique a e f p q = p ∙ sym q
+
+module _ (κs : Lfts 4) (r t : Told) where
+  pub judge-unique : (a : Dens κs judge.ps) (e f : AtExit (endedOf 4 judge.ps judge.r) κs) →
+      judge-reads.Post κs a r e → judge-reads.Post κs a t f →
+      (r ≡ t) × (now (e .1 .1 .1 .1 .0) ≡ now (f .1 .1 .1 .1 .0)) × (now (e .1 .1 .1 .1 .1 .0) ≡ now (f .1 .1 .1 .1 .1 .0))
+  judge-unique a e f p q =
+      let trace = now (a .1 .1 .0) in
+      let start = a .1 .1 .1 .0 in
+      let work = now (a .1 .1 .1 .1 .0) in
+      let list = now (a .1 .1 .1 .1 .1 .0) in
+      let u =
+      one-judging (traceOf trace start) work list _ _ _ _ (checksOf (kindOf (a .0)) (now (a .1 .0)) trace start (length work) (length list)) (p .0) (q .0)
+      (p .2) (q .2) in
+      (p .1 ∙ ap judgedTold (u .0) ∙ sym (q .1), u .1, u .2)

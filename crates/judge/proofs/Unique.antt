@@ -27,7 +27,7 @@ one-verdict P true false h k = sym (k .1 (h .0 refl))
 one-verdict P false true h k = h .1 (k .0 refl)
 
 module _ (t : Trace) (work list work₁ list₁ work₂ list₂ : List ℕ) where
-  one-judging : (c : Checks) (r s : Judged) → Judges c t work list work₁ list₁ r → Judges c t work list work₂ list₂ s → (r ≡ s) × (work₁ ≡ work₂) × (list₁ ≡ list₂)
+  pub one-judging : (c : Checks) (r s : Judged) → Judges c t work list work₁ list₁ r → Judges c t work list work₂ list₂ s → (r ≡ s) × (work₁ ≡ work₂) × (list₁ ≡ list₂)
   one-judging (stop cause place) r s a b = (a .0 ∙ sym (b .0), a .1 ∙ sym (b .1), a .2 ∙ sym (b .2))
   one-judging (go f) (Verdict h m) (Verdict k n) a b =
       let e : a .found ≡ b .found = one-list (a .findings) (b .findings) in
