@@ -1,5 +1,6 @@
-//! The second program: a slow and plain checker, written from document 01 alone. The proved program is compared with it
-//! by running both on random and damaged inputs, so it shares no code with that program.
+//! The second program: a slow and plain checker, written from document 01, paper 000 and the readings of their open places.
+//! The proved program is compared with it by running both on random and damaged inputs, so it shares no code with that
+//! program; it does share the readings.
 //!
 //! Each rule stands under the few words of document 01 (or of its readings) that it stands for.
 
