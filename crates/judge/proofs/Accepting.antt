@@ -1,6 +1,6 @@
 -- What the checks before a judging come to on each way through them, and what an accepted judging shows.
 -- Assumes nothing.
-use Prim.Native.Nat.{ℕ, zero, suc, _+_, _*_, _/_, _^_, _<_, _≤_}
+use Prim.Native.Nat.{ℕ, zero, suc, _+_, _-_, _*_, _/_, _^_, _<_, _≤_}
 use native.Mathlib.Omega.{arith}
 use native.Mathlib.Nat.{le-refl, zero-add, mul-le-mul, min-le-left}
 use mathlib.Core.Path.{_≡_, refl, sym, ap, _∙_}
@@ -118,9 +118,18 @@ asked-most {d} {n} h l =
     let m : d * ((n + 7) / 8) ≤ 65535 * 512 = mul-le-mul {n₁ = d} {m₁ = (n + 7) / 8} {n₂ = 65535} {m₂ = 512} (omega arith) (omega arith) in
     omega arith
 
+pub less-none : (k : ℕ) → k - 0 ≡ k
+less-none k = omega arith
+
 module _ {trace : List ℕ} {start n : ℕ} (l : Lasso trace start n) where
-  pub inputs-few : inputsIn trace ≤ 4096
+  inputs-few : inputsIn trace ≤ 4096
   inputs-few = omega (arith, count-most (markB trace 0) (positions trace), l .most, l .count)
+
+  pub row-adds : n + 7 < 2 ^ 64
+  row-adds = omega (arith, l .most)
+
+  pub wanted-most : (m : ℕ) → m ≡ inputsIn trace → 2 * m < 2 ^ 64
+  wanted-most m e = omega (arith, inputs-few)
 
   pub part-few : (w : List ℕ) (k : ℕ) → k ≡ (n + 7) / 8 → length (take k w) ≤ 512
   part-few w k e = rw (length-take k w) (omega (arith, min-le-left k (length w), l .most))
@@ -137,18 +146,21 @@ module _ {kind : Kind} {s : List ℕ} {depth : ℕ} (h : Sound kind s depth) {tr
     },
   )
 
-  pub row-fits : (work : List ℕ) → depth * ((n + 7) / 8) ≤ length work → (n + 7) / 8 ≤ length work
-  row-fits work a = let (some, room) = room-fine work a in rw (l .count) (room-some some room)
+  pub row-fits : (work w : List ℕ) → length w ≡ length work → depth * ((n + 7) / 8) ≤ length work → (n + 7) / 8 ≤ length w
+  row-fits work w e a = let (some, room) = room-fine work a in rw (e, l .count) (room-some some room)
 
-  module _ (w : List ℕ) (r : Tally) (k : ℕ) (ek : k ≡ (n + 7) / 8) (room : rowOf (positions trace) ≤ length w) (tally : Tallies (walkAt kind depth s 0) trace start w r) where
+  module _ (w : List ℕ) (r : Tally) (k : ℕ) (ek : k ≡ (n + 7) / 8) (fits : (n + 7) / 8 ≤ length w) (tally : Tallies (walkAt kind depth s 0) trace start w r) where
     told : Tallied trace (judge (traceOf trace start) (h .requirement)) w r
     told = rw (walk-of-parsed kind s (h .requirement) depth (h .read) (omega (arith, h .deep))) at tally
 
     kn : k ≡ rowOf (positions trace)
     kn = rw (l .count) at ek
 
-    pub list-fits : (list : ℕ) → 2 * inputsIn trace ≤ list → 2 * countB (bitAt (take k w)) (8 * length (take k w)) ≤ list
-    list-fits list a =
+    room : rowOf (positions trace) ≤ length w
+    room = rw (l .count) at fits
+
+    pub list-fits : (m list : ℕ) → m ≡ inputsIn trace → 2 * m ≤ list → 2 * countB (bitAt (take k w)) (8 * length (take k w)) ≤ list
+    list-fits m list e a =
         omega (arith, part-count k (positions trace) w _ kn room (told .found) (told .behind), failing-few trace (λ p i. l .phases p (omega (arith, l .count))) (judge (traceOf trace start) (h .requirement)) (positions trace) (le-refl (positions trace)))
 
     pub accepted : (work list work′ list′ : List ℕ) → length w ≡ length work → work′ ≡ replicate (length w) 0

@@ -11,13 +11,13 @@ use lib.ListN.{length, take, drop}
 use lib.Seq.{getD-take}
 use lib.Dec.{eqb}
 use borrow.Author.Tests.{lt-ltb, le-ltb}
-use borrow.Rule.Slice.PartMut.{midOf, putMid, mid-len, drop-put}
+use borrow.Rule.Slice.PartMut.{midOf, putMid, mid-len, same-len-mid, drop-put}
 use Rattle.requirement.specs.declared.Phase.{Phase}
 use Rattle.requirement.specs.declared.Phase.the-variants.{Input, Exe, Output}
 use Rattle.meaning.specs.Phases.{Phase-discrete}
 use Rattle.meaning.specs.Rows.{rowed}
 use Rattle.bits.specs.Bits.{bitAt}
-use Rattle.bits.specs.Rows.{afterOf}
+use Rattle.bits.specs.Rows.{rowOf, afterOf}
 use Rattle.bits.proofs.Bytes.{same-bits, part-before, part-is}
 use Rattle.bits.proofs.Walks.{until-same}
 use Rattle.lasso.specs.Bytes.{positions, phaseFrom, phaseByte, markB, traceOf}
@@ -41,6 +41,15 @@ byte-is (suc (suc (suc b))) phase h = absurd (omega arith)
 pub mark-is : {k : ℕ} {t : List ℕ} {start : ℕ} {w : List ℕ} → Room k t start w → (phase : Phase) (m : ℕ) → m ≡ phaseNumber phase → Same (positions t) (markB t m) (isAt t phase)
 unfolding markB
 mark-is {t = t} h phase m e p l = rw e (byte-is (phaseByte t p) phase (h .phases p l))
+
+-- ---- room in a work of the same length
+
+module _ {t : List ℕ} {start : ℕ} {w v : List ℕ} where
+  pub as-long : {k : ℕ} → Room k t start w → length v ≡ length w → Room k t start v
+  as-long h e = record { inside = h .inside; few = h .few; phases = h .phases; room = rw e (h .room) }
+
+  pub one-row : Room 2 t start w → length v ≡ length w → Room 1 t start v
+  one-row h e = record { inside = h .inside; few = h .few; phases = h .phases; room = omega (arith, h .room) }
 
 -- ---- operators over rows that agree
 
@@ -67,20 +76,64 @@ was : (k : ℕ) (s : List ℕ) (p : ℕ) → p < 8 * k → bitAt (take k s) p �
 was k s p l = same-bits (take k s) s p (getD-take k s (p / 8) 0 (omega arith))
 
 module _ (n r : ℕ) (w : List ℕ) (hn : n ≤ 8 * r) (hr : r + r ≤ length w) where
-  pub first-was : Same n (bitAt (midOf 0 (r - 0) w)) (bitAt w)
-  first-was p l = was (r - 0) w p (omega arith)
+  first-at : Same n (bitAt (midOf 0 (r - 0) w)) (bitAt w)
+  first-at p l = was (r - 0) w p (omega arith)
 
-  pub second-was : Same n (bitAt (midOf r (length w - r) w)) (bitAt (drop r w))
-  second-was p l = was (length w - r) (drop r w) p (omega arith)
+  second-at : Same n (bitAt (midOf r (length w - r) w)) (bitAt (drop r w))
+  second-at p l = was (length w - r) (drop r w) p (omega arith)
 
-  pub first-back : (x : List ℕ) (f : ℕ → Bool) → length x ≡ length (midOf 0 (r - 0) w) → Same n (bitAt x) f
+  first-put : (x : List ℕ) (f : ℕ → Bool) → length x ≡ length (midOf 0 (r - 0) w) → Same n (bitAt x) f
       → Same n (bitAt (putMid 0 (r - 0) w x)) f × (drop r (putMid 0 (r - 0) w x) ≡ drop r w)
-  first-back x f k e =
+  first-put x f k e =
       let q : length x ≡ r - 0 = k ∙ mid-len 0 r w (omega arith) in
       (λ p l. part-is 0 (r - 0) w x (omega arith) p (omega arith) ∙ e p l, drop-put 0 r w x (omega arith) (omega arith) q)
 
-  pub second-back : (x : List ℕ) (f : ℕ → Bool) → length x ≡ length (midOf r (length w - r) w) → Same n (bitAt x) f
+  second-put : (x : List ℕ) (f : ℕ → Bool) → length x ≡ length (midOf r (length w - r) w) → Same n (bitAt x) f
       → Same n (bitAt (putMid r (length w - r) w x)) (bitAt w) × Same n (bitAt (drop r (putMid r (length w - r) w x))) f
-  second-back x f k e =
+  second-put x f k e =
       let q : length x ≡ length w - r = k ∙ mid-len r (length w) w (omega arith) in
       (λ p l. part-before r (length w - r) w x (omega arith) p (omega arith), λ p l. part-is r (length w - r) w x (omega arith) p (omega arith) ∙ e p l)
+
+module _ {t : List ℕ} {start : ℕ} {w : List ℕ} (h : Room 2 t start w) where
+  pub row-fits : rowOf (positions t) ≤ length w
+  row-fits = omega (arith, h .room)
+
+  rows-fit : rowOf (positions t) + rowOf (positions t) ≤ length w
+  rows-fit = omega (arith, h .room)
+
+  in-row : positions t ≤ 8 * rowOf (positions t)
+  in-row = omega arith
+
+  pub first-room : Room 1 t start (midOf 0 (rowOf (positions t) - 0) w)
+  first-room =
+      let e = mid-len 0 (rowOf (positions t)) w row-fits in
+      record { inside = h .inside; few = h .few; phases = h .phases; room = rw e (omega arith) }
+
+  pub second-room : Room 1 t start (midOf (rowOf (positions t)) (length w - rowOf (positions t)) w)
+  second-room =
+      let e = mid-len (rowOf (positions t)) (length w) w (omega arith) in
+      record { inside = h .inside; few = h .few; phases = h .phases; room = rw e (omega (arith, rows-fit)) }
+
+  pub first-was : Same (positions t) (bitAt (midOf 0 (rowOf (positions t) - 0) w)) (bitAt w)
+  first-was = first-at (positions t) (rowOf (positions t)) w in-row rows-fit
+
+  pub second-was : Same (positions t) (bitAt (midOf (rowOf (positions t)) (length w - rowOf (positions t)) w)) (bitAt (drop (rowOf (positions t)) w))
+  second-was = second-at (positions t) (rowOf (positions t)) w in-row rows-fit
+
+  module _ (x : List ℕ) where
+    pub first-length : length x ≡ length (midOf 0 (rowOf (positions t) - 0) w) → length (putMid 0 (rowOf (positions t) - 0) w x) ≡ length w
+    first-length = same-len-mid 0 (rowOf (positions t) - 0) w x
+
+    pub second-length : length x ≡ length (midOf (rowOf (positions t)) (length w - rowOf (positions t)) w)
+        → length (putMid (rowOf (positions t)) (length w - rowOf (positions t)) w x) ≡ length w
+    second-length = same-len-mid (rowOf (positions t)) (length w - rowOf (positions t)) w x
+
+    pub first-back : (f : ℕ → Bool) → length x ≡ length (midOf 0 (rowOf (positions t) - 0) w) → Same (positions t) (bitAt x) f
+        → Same (positions t) (bitAt (putMid 0 (rowOf (positions t) - 0) w x)) f
+        × (drop (rowOf (positions t)) (putMid 0 (rowOf (positions t) - 0) w x) ≡ drop (rowOf (positions t)) w)
+    first-back = first-put (positions t) (rowOf (positions t)) w in-row rows-fit x
+
+    pub second-back : (f : ℕ → Bool) → length x ≡ length (midOf (rowOf (positions t)) (length w - rowOf (positions t)) w) → Same (positions t) (bitAt x) f
+        → Same (positions t) (bitAt (putMid (rowOf (positions t)) (length w - rowOf (positions t)) w x)) (bitAt w)
+        × Same (positions t) (bitAt (drop (rowOf (positions t)) (putMid (rowOf (positions t)) (length w - rowOf (positions t)) w x))) f
+    second-back = second-put (positions t) (rowOf (positions t)) w in-row rows-fit x

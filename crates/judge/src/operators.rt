@@ -145,6 +145,18 @@ fn reach(trace: &[u8], start: usize, phase: Phase, work: &mut [u8])
     before(trace, start, phase, phase, work);
 }
 
+// The row at the second position of a sequence, whose first is the nearest of one phase, and whose second the nearest of the other after it.
+fn second_of_sequence(trace: &[u8], start: usize, first: Phase, second: Phase, work: &mut [u8])
+    requires { ⌜ Room 2 (now trace) start (now work) ⌝ }
+    ensures { λ _. ⌜ Same (positions (now (trace .entry))) (bitAt (now (work .exit)))
+        (reachOf (traceOf (now (trace .entry)) start) first
+        (rowed (traceOf (now (trace .entry)) start) .X (reachOf (traceOf (now (trace .entry)) start) second (bitAt (now (work .entry)))))) ⌝ }
+{
+    reach(trace, start, second, work);
+    next(trace, start, work);
+    reach(trace, start, first, work);
+}
+
 fn next_in(family: Family, trace: &[u8], start: usize, work: &mut [u8])
     requires { ⌜ Room 2 (now trace) start (now work) ⌝ }
     ensures { λ _. ⌜ Same (positions (now (trace .entry))) (bitAt (now (work .exit))) (nextOf (traceOf (now (trace .entry)) start) family (bitAt (now (work .entry)))) ⌝ }
@@ -159,9 +171,7 @@ fn next_in(family: Family, trace: &[u8], start: usize, work: &mut [u8])
         }
         Family::Each(end) => {
             let phase = phase_of(end);
-            reach(trace, start, phase, work);
-            next(trace, start, work);
-            reach(trace, start, phase, work);
+            second_of_sequence(trace, start, phase, phase, work);
         }
     }
 }

@@ -2,3 +2,4 @@ pub mod Positions
 pub mod Steps
 pub mod WellFormed
 pub mod Examples
+pub mod Unique

@@ -1,4 +1,5 @@
--- A trace is accepted just where its bytes are a well-formed lasso, and one refused for its steps is refused at the first that is at fault.
+-- A trace is accepted just where its bytes are a well-formed lasso; one refused for its steps is refused at the first that is at fault, and one that has no
+-- other fault but a loop without an Output at the loop start.
 -- Assumes nothing.
 use Prim.Native.Nat.{ℕ, zero, suc, _+_, _-_, _*_, _%_, _≤_, _<_}
 use native.Mathlib.Omega.{arith}
@@ -20,7 +21,7 @@ use Rattle.meaning.specs.Trace.{WellFormed, Follows}
 use Rattle.bits.specs.Rows.{afterOf}
 use Rattle.lasso.specs.Bytes.{positions, phaseFrom, phaseByte, traceOf}
 use Rattle.lasso.specs.Checking.{lengthOk, mayFollow, stepsFrom, outputFrom, checkBy, checkTrace}
-use Rattle.lasso.proofs.Steps.{with-output}
+use Rattle.lasso.proofs.Steps.{with-output, without-output}
 
 -- Position i has a phase, and what follows it has one that may follow.
 pub record Fine (s : List ℕ) (start i : ℕ) : Type 0 where
@@ -33,6 +34,12 @@ pub record FirstFault (s : List ℕ) (start p : ℕ) : Type 0 where
   pub inside : p < positions s
   pub before : (i : ℕ) → i < p → Fine s start i
   pub here : Fine s start p → ⊥
+
+-- No position is at fault, but the loop holds no Output: the place is the loop start.
+pub record Unwritten (s : List ℕ) (start p : ℕ) : Type 0 where
+  pub fine : (i : ℕ) → i < positions s → Fine s start i
+  pub none : (i : ℕ) → start ≤ i → i < positions s → phaseByte s i ≡ 2 → ⊥
+  pub place : p ≡ start
 
 -- What an accepted trace is.
 pub record Lasso (s : List ℕ) (start n : ℕ) : Type 0 where
@@ -117,16 +124,17 @@ module _ (s : List ℕ) (start : ℕ) where
   to-the-end : (fine : Answer) → Walked fine 0 (positions s) (stepsFrom mayFollow s start (positions s) 0 fine)
   to-the-end fine = walked fine (positions s) 0 (positions s) (omega arith)
 
-  -- "bad phase or followed by a phase not allowed (first such position)"
-  pub first-fault : (n p : ℕ) (cause : Cause) → stepsFrom mayFollow s start (positions s) 0 (Count n) ≡ Refused cause p → FirstFault s start p
-  first-fault n p cause e = go _ (to-the-end (Count n)) e
-    where
-      go : (a : Answer) → Walked (Count n) 0 (positions s) a → a ≡ Refused cause p → FirstFault s start p
-      go a (inl (q, all)) e = absurd (not-both (sym e ∙ q))
-      go a (inr (p′, q, h, k, all, bad)) e =
-          let f : FirstFault s start p′ = record { inside = k; before = λ i l. all i (omega arith) l; here = bad } in
-          let p-is : p′ ≡ p = cc in
-          rw p-is at f
+  abbrev Where : ℕ → Cause → Type 0
+  Where p cause = (cause ≡ BadTrace) × (FirstFault s start p ⊎ Unwritten s start p)
+
+  refused-by : (fine : Answer) (p : ℕ) (cause : Cause) → (fine ≡ Refused cause p → AllFine 0 (positions s) → Where p cause) →
+      (a : Answer) → Walked fine 0 (positions s) a → a ≡ Refused cause p → Where p cause
+  refused-by fine p cause last a (inl (q, all)) e = last (sym q ∙ e) all
+  refused-by fine p cause last a (inr (p′, q, h, k, all, bad)) e =
+      let f : FirstFault s start p′ = record { inside = k; before = λ i l. all i (omega arith) l; here = bad } in
+      let p-is : p′ ≡ p = cc in
+      let cause-is : cause ≡ BadTrace = cc in
+      (cause-is, inl (rw p-is at f))
 
   all-fine : AllFine 0 (positions s) → (fine : Answer) → stepsFrom mayFollow s start (positions s) 0 fine ≡ fine
   all-fine all fine = ⊎-elim (λ (q, _). q) (λ (p, q, h, k, _, bad). absurd (bad (all p h k))) (to-the-end fine)
@@ -169,7 +177,7 @@ length-is n =
     (λ f. by (ltb 20480 n) (λ _ e. absurd (false≢true e))
     (λ g e. (omega (arith, eqb-false n 0 f), ltb-false 20480 n g, eqb-true (n % 5) 0 e)))
 
--- ---- the two theorems
+-- ---- the three theorems
 after-inside : {n start : ℕ} (i : ℕ) → start < n → afterOf n start i < n
 after-inside {n} {start} i h = go (ltb (suc i) n) refl
   where
@@ -219,3 +227,27 @@ module _ (s : List ℕ) (start : ℕ) where
       ∙ all-fine s start
       (λ j _ m. record { phase = phases j m; next = phases _ (after-inside j (w .inside)); follows = w .steps j m })
       (Count (positions s))
+
+  -- "bad phase or followed by a phase not allowed (first such position); no Output in the loop (loop start)"
+  pub refused-where : (p : ℕ) (cause : Cause) → lengthOk (length s) ≡ true → start < positions s → checkTrace s start ≡ Refused cause p →
+      (cause ≡ BadTrace) × (FirstFault s start p ⊎ Unwritten s start p)
+  refused-where p cause ok inside e = go (outputFrom s (positions s - start) start) refl
+    where
+      go : (b : Bool) → outputFrom s (positions s - start) start ≡ b → Where s start p cause
+      go true out =
+          refused-by s start (Count (positions s)) p cause (λ q all. absurd (not-both (sym q))) _ (to-the-end s start _)
+          (with-output mayFollow s start ok inside out ∙ e)
+      go false out =
+          refused-by s start (Refused BadTrace start) p cause
+          (λ q all.
+          let cause-is : cause ≡ BadTrace = cc in
+          let p-is : p ≡ start = cc in (
+            cause-is,
+            inr
+                (record {
+                  fine = λ i h. all i (omega arith) h;
+                  none = λ i h k two. false≢true (sym out ∙ output-is s (positions s - start) start i h (omega arith) two);
+                  place = p-is;
+                }),
+          ))
+          _ (to-the-end s start _) (without-output mayFollow s start ok inside out ∙ e)

@@ -13,7 +13,7 @@ use Rattle.bits.specs.Bits.{bitB, countB}
 abbrev pub positions : List ℕ → ℕ
 positions s = length s / 5
 
--- "Output (2); .. Input (0); all others are Exe (1)"
+-- "Output (2) .. Input (0) .. Exe (1)". A byte above 2 is no phase: the check refuses a trace that has one, and its value here is then never used.
 abbrev pub phaseFrom : ℕ → Phase
 phaseFrom zero = Input
 phaseFrom (suc zero) = Exe
@@ -26,7 +26,7 @@ phaseByte s p = getD s (p * 5) 0
 unfoldable pub markB : List ℕ → ℕ → ℕ → Bool
 markB s m p = eqb (phaseByte s p) m
 
--- Atom a at position p.
+-- Atom a, 0 to 31, at position p.
 unfoldable pub atomB : List ℕ → ℕ → ℕ → Bool
 atomB s a p = bitB (getD s (p * 5 + 1 + a / 8) 0) (a % 8)
 

@@ -1,12 +1,10 @@
 // The bytes of a lasso trace: well-formed or refused, and what stands at a position.
 use coding::Answer;
 use coding::Cause;
-use requirement::Phase;
 ghost use mathlib.Core.Path.{_≡_};
 ghost use Rattle.bits.specs.Rows.{afterOf};
-ghost use Rattle.bits.specs.Bits.{bitB};
 ghost use Prim.Native.Nat.{_<_, _-_};
-ghost use Rattle.lasso.specs.Bytes.{positions, phaseFrom, phaseByte, atomB, inputsIn};
+ghost use Rattle.lasso.specs.Bytes.{positions, phaseByte, inputsIn};
 ghost use Rattle.lasso.specs.Checking.{lengthOk, mayFollow, stepsFrom, outputFrom, checkTrace};
 
 // The phase byte of a position; 0 past the end.
@@ -21,39 +19,6 @@ pub fn phase_byte(trace: &[u8], p: usize) -> u8
         return trace[at];
     }
     0
-}
-
-// The phase of a position.
-pub fn phase_at(trace: &[u8], p: usize) -> Phase
-    ensures { λ r. ⌜ r ≡ phaseFrom (phaseByte (now (trace .entry)) p) ⌝ }
-{
-    match phase_byte(trace, p) {
-        0 => Phase::Input,
-        1 => Phase::Exe,
-        _ => Phase::Output,
-    }
-}
-
-// Digit k of x, for k below 8.
-fn digit_of(x: u8, k: u16) -> bool
-    requires { ⌜ k < 8 ⌝ }
-    ensures { λ r. ⌜ r ≡ bitB x k ⌝ }
-{
-    (x >> k) % 2 == 1
-}
-
-// Whether atom a holds at a position.
-pub fn atom_at(trace: &[u8], p: usize, a: u16) -> bool
-    ensures { λ r. ⌜ r ≡ atomB (now (trace .entry)) a p ⌝ }
-{
-    if trace.len() / 5 < p {
-        return false;
-    }
-    let at = p * 5 + 1 + (a / 8) as usize;
-    if at < trace.len() {
-        return digit_of(trace[at], a % 8);
-    }
-    false
 }
 
 fn length_ok(n: usize) -> bool

@@ -1,3 +1,4 @@
 pub mod Passed
 pub mod Order
 pub mod Structured
+pub mod Past

@@ -9,16 +9,13 @@ use lib.Seq.{ext-getD}
 use Rattle.lookups.specs.declared.TestRow.{TestRow}
 use Rattle.lookups.specs.declared.ActionRow.{ActionRow}
 use Rattle.lookups.specs.Places.{outputsOf, sourceOf, testsOf, testPlace, testOf, processesPlace, processesOf}
-use Rattle.lookups.specs.Places.{afterStates, afterProcesses, processPlace, statePlace, statesOf, actionsOf, rowFrom, actionOf}
+use Rattle.lookups.specs.Places.{afterStates, afterProcesses, processPlace, statePlace, statesOf, actionsOf, rowFrom, noAction, actionFrom, actionOf}
 use Rattle.lookups.specs.Structure.{Table, actionNumbers, testNumbers, inOrder, stateNumbers, processNumbers, numbersOf}
 use Rattle.lookups.proofs.Order.{From, nth, first, front, past, next, Walk, after-all, item, blocks}
 
--- A test and an action of zeros.
+-- A test of zeros.
 abbrev pub noTest : TestRow
 noTest = record { kind = 0; a = 0; b = 0 }
-
-abbrev pub noAction : ActionRow
-noAction = record { op = 0; x = 0; y = 0; guard = 0; «next_if» = 0; «next_else» = 0 }
 
 -- Process p of a table, state s of that, and action a of that; each from 1.
 abbrev pub processIn : Table → ℕ → List (List ActionRow)
@@ -133,7 +130,7 @@ module _ (t : Table) where
       actions = first state-from
 
       action : (a : ℕ) → OneOf a (length (stateIn t p s)) → actionOf (numbersOf t) p s a ≡ actionIn t p s a
-      unfolding actionOf stateNumbers
+      unfolding actionOf actionFrom stateNumbers
       action a ha =
           row-from (numbersOf t) _ (actionIn t p s a)
           (item (actions-walk (numbersOf t)) (stateIn t p s) noAction (a - 1) _ (omega arith) (next state-from))

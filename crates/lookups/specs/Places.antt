@@ -55,7 +55,7 @@ statesOf T p = getD T (processPlace T p) 0
 abbrev pub actionsOf : List ℕ → ℕ → ℕ → ℕ
 actionsOf T p s = getD T (statePlace T p s) 0
 
--- The six numbers from a place on, and those of action a, from 1.
+-- The six numbers from a place on; those of action a, from 1, of the state that has its count at a place, and of state s of process p.
 unfoldable pub rowFrom : List ℕ → ℕ → ActionRow
 rowFrom T at =
     record {
@@ -67,5 +67,23 @@ rowFrom T at =
       «next_else» = getD T (at + 5) 0;
     }
 
+-- What is found of an action that is not there.
+abbrev pub noAction : ActionRow
+noAction = record { op = 0; x = 0; y = 0; guard = 0; «next_if» = 0; «next_else» = 0 }
+
+unfoldable pub actionFrom : List ℕ → ℕ → ℕ → ActionRow
+actionFrom T state a = rowFrom T (state + 1 + 6 * (a - 1))
+
 unfoldable pub actionOf : List ℕ → ℕ → ℕ → ℕ → ActionRow
-actionOf T p s a = rowFrom T (statePlace T p s + 1 + 6 * (a - 1))
+actionOf T p s a = actionFrom T (statePlace T p s) a
+
+-- "Inputs: scans q (1 to 1,365), return scan b (below q), then one number per input variable per scan": scan by scan. What input variable k takes when so many
+-- scans are done.
+abbrev pub scansOf : List ℕ → ℕ
+scansOf I = getD I 0 0
+
+abbrev pub returnOf : List ℕ → ℕ
+returnOf I = getD I 1 0
+
+unfoldable pub readingOf : List ℕ → ℕ → ℕ → ℕ → ℕ
+readingOf I inputs done k = getD I (2 + inputs * done + k) 0

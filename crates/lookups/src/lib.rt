@@ -1,10 +1,10 @@
-// Looking things up in the numbers of a table: sources, tests and actions by their place in the coding's order. An answer is what stands at that place, and 0 past
-// the last number: of an output, test, process, state or action that the table does not have it says nothing.
+// Looking things up in the numbers of a table and of an inputs record, by their place in the coding's order. An answer is what stands at that place, and 0 past
+// the last number: of an output, test, process, state, action or scan that there is not it says nothing.
 mod places;
 
 ghost use mathlib.Core.Path.{_≡_};
 ghost use lib.ListN.{getD};
-ghost use Rattle.lookups.specs.Places.{outputsOf, sourceOf, testsOf, testOf, processesOf, statesOf, actionsOf, actionOf};
+ghost use Rattle.lookups.specs.Places.{outputsOf, sourceOf, testsOf, testOf, processesOf, statesOf, actionsOf, actionOf, statePlace, actionFrom, scansOf, returnOf, readingOf};
 
 // A test as its three numbers.
 pub struct TestRow {
@@ -95,7 +95,45 @@ pub fn actions(table: &[u16], p: u16, s: u16) -> u16
 pub fn action(table: &[u16], p: u16, s: u16, a: u16) -> ActionRow
     ensures { λ r. ⌜ r ≡ actionOf (now (table .entry)) p s a ⌝ }
 {
-    let state = places::state_place(table, p, s);
+    action_from(table, state_at(table, p, s), a)
+}
+
+// Where state s of process p has its count of actions; its actions follow.
+pub fn state_at(table: &[u16], p: u16, s: u16) -> usize
+    ensures { λ r. ⌜ r ≡ statePlace (now (table .entry)) p s ⌝ }
+{
+    places::state_place(table, p, s)
+}
+
+// Action a, from 1, of the state that has its count of actions at a place.
+pub fn action_from(table: &[u16], state: usize, a: u16) -> ActionRow
+    ensures { λ r. ⌜ r ≡ actionFrom (now (table .entry)) state a ⌝ }
+{
+    if table.len() <= state {
+        return places::no_action();
+    }
     let at = state + 1 + 6 * places::before(a) as usize;
     places::row_from(table, at)
+}
+
+// How many scans an inputs record has.
+pub fn scans(recorded: &[u16]) -> u16
+    ensures { λ r. ⌜ r ≡ scansOf (now (recorded .entry)) ⌝ }
+{
+    places::number(recorded, 0)
+}
+
+// The scan to which the run returns.
+pub fn return_scan(recorded: &[u16]) -> u16
+    ensures { λ r. ⌜ r ≡ returnOf (now (recorded .entry)) ⌝ }
+{
+    places::number(recorded, 1)
+}
+
+// What variable k of so many input variables takes when so many scans are done.
+pub fn reading(recorded: &[u16], inputs: u16, done: u16, k: u16) -> u16
+    ensures { λ r. ⌜ r ≡ readingOf (now (recorded .entry)) inputs done k ⌝ }
+{
+    let before = inputs as usize * done as usize;
+    places::number(recorded, 2 + before + k as usize)
 }

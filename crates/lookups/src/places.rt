@@ -3,7 +3,7 @@ use crate::ActionRow;
 ghost use mathlib.Core.Path.{_≡_};
 ghost use Prim.Native.Nat.{ℕ, _+_, _-_, _*_, _^_, _≤_, _<_};
 ghost use lib.ListN.{length, getD};
-ghost use Rattle.lookups.specs.Places.{testPlace, processesPlace, afterStates, afterProcesses, processPlace, statePlace, rowFrom};
+ghost use Rattle.lookups.specs.Places.{testPlace, processesPlace, afterStates, afterProcesses, processPlace, statePlace, noAction, rowFrom};
 
 // The number at a place, 0 past the end.
 pub fn number(table: &[u16], at: usize) -> u16
@@ -88,9 +88,23 @@ pub fn state_place(table: &[u16], p: u16, s: u16) -> usize
     after_states(table, from, before(s))
 }
 
+// What is found of an action that is not there.
+pub fn no_action() -> ActionRow
+    ensures { λ r. ⌜ r ≡ noAction ⌝ }
+{
+    ActionRow {
+        op: 0,
+        x: 0,
+        y: 0,
+        guard: 0,
+        next_if: 0,
+        next_else: 0,
+    }
+}
+
 // The six numbers from a place on.
 pub fn row_from(table: &[u16], at: usize) -> ActionRow
-    requires { ⌜ at < 2 ^ 60 ⌝ }
+    requires { ⌜ at < 2 ^ 63 + 2 ^ 20 ⌝ }
     ensures { λ r. ⌜ r ≡ rowFrom (now (table .entry)) at ⌝ }
 {
     ActionRow {

@@ -19,7 +19,7 @@ use Rattle.meaning.specs.Translation.{translate}
 use Rattle.meaning.specs.Trace.{Trace, WellFormed, Follows, after, position}
 use Rattle.meaning.specs.Rows.{judge, walk}
 use Rattle.meaning.specs.Findings.{Findings, select}
-use Rattle.marked.specs.Marked.{bench, benchBytes, marked, slips, Case, holds, fails, finds, gives, bytes, Says, All}
+use Rattle.marked.specs.Marked.{bench, benchBytes, marked, slips, Case, holds, fails, finds, gives, bytes, Stated, All}
 use Rattle.coding.specs.declared.Answer.the-variants.{Count}
 use Rattle.bits.specs.Bits.{bitB}
 use Rattle.lasso.specs.Bytes.{atomB}
@@ -61,7 +61,7 @@ test (finds f l) = same (select (judge bench (two And (mark Input) (one Not f)))
 test (gives f l) = same (codeOf (translate f)) l
 test (bytes n l) = same (bytesOf n) l
 
-passed : (c : Case) → So (test c) → Says c
+passed : (c : Case) → So (test c) → Stated c
 unfolding test
 passed (holds f n) h = judged well f .at n .1 h
 passed (fails f n) h = λ x. false≢true (sym (ap neg (judged well f .at n .0 x)) ∙ h)
@@ -73,15 +73,15 @@ tests : List Case → Bool
 tests [] = true
 tests (c ∷ cs) = test c && tests cs
 
-all-passed : (cs : List Case) → So (tests cs) → All Says cs
+all-passed : (cs : List Case) → So (tests cs) → All Stated cs
 unfolding tests
 all-passed [] h = tt
 all-passed (c ∷ cs) h = let (x, y) = and-both (test c) _ h in (passed c x, all-passed cs y)
 
-pub shown : All Says marked
+pub shown : All Stated marked
 unfolding tests test select judge walk decide position same translate codeOf bytesOf atomB bitB
 shown = all-passed marked refl
 
-pub slips-shown : All Says slips
+pub slips-shown : All Stated slips
 unfolding tests test select judge walk decide position same translate atomB bitB
 slips-shown = all-passed slips refl

@@ -1,4 +1,4 @@
--- Document 01, The bench case: "Marked for proof on this trace: M1 that finding ..", and the slips that it must exclude.
+-- Document 01, The bench case: "Marked for proof on this trace: M1 that finding ..", and slips that it must exclude.
 -- Assumes nothing: these are definitions.
 use Prim.Native.Nat.{ℕ}
 use mathlib.Core.Path.{_≡_}
@@ -35,25 +35,26 @@ pub data Case : Type 0 where
   gives : Requirement → List ℕ → Case
   bytes : ℕ → List ℕ → Case
 
-abbrev pub Says : Case → Type 0
-Says (holds f n) = Holds (endless bench) f n
-Says (fails f n) = ¬ Holds (endless bench) f n
-Says (finds f l) = Findings bench f l
-Says (gives f l) = codeOf (translate f) ≡ l
-Says (bytes n l) = bytesOf n ≡ l
+abbrev pub Stated : Case → Type 0
+Stated (holds f n) = Holds (endless bench) f n
+Stated (fails f n) = ¬ Holds (endless bench) f n
+Stated (finds f l) = Findings bench f l
+Stated (gives f l) = codeOf (translate f) ≡ l
+Stated (bytes n l) = bytesOf n ≡ l
 
-abbrev pub heated : Requirement
-heated = implies written (atom 0) (atom 1)
+-- M1's requirement, not(a0 and not a1).
+abbrev pub answered : Requirement
+answered = implies written (atom 0) (atom 1)
 
 abbrev pub marked : List Case
 marked =
     -- "M1 that finding."
-    finds heated (5 ∷ [])
+    finds answered (5 ∷ [])
     -- "M2 G^i not(a0 and not X^i a1) holds at 0."
     ∷ holds (one (Always (Each Reads)) (implies written (atom 0) (one (Next (Each Reads)) (atom 1)))) 0
     -- "M3 plain G of M1's requirement fails at 0; M4 its G^o holds."
-    ∷ fails (one (Always Plain) heated) 0
-    ∷ holds (one (Always (Each Writes)) heated) 0
+    ∷ fails (one (Always Plain) answered) 0
+    ∷ holds (one (Always (Each Writes)) answered) 0
     -- "M5 X^i a1 at 6 fails. M6 X^i a1 at 5 holds."
     ∷ fails (one (Next (Each Reads)) (atom 1)) 6
     ∷ holds (one (Next (Each Reads)) (atom 1)) 5
@@ -74,10 +75,12 @@ abbrev pub All : (Case → Type 0) → List Case → Type 0
 All P [] = Unit
 All P (c ∷ cs) = P c × All P cs
 
--- "Slips this must exclude", on the same trace.
+-- Never true.
 abbrev pub never : Requirement
 never = two And (atom 0) (one Not (atom 0))
 
+-- Three of the four of "Slips this must exclude", on the same trace; the fourth, "A timer started and raised in the same scan", belongs to the run. The last
+-- case here is of Meaning's last sentence: "The published G^e target, "not Exe", is wrong at Input".
 abbrev pub slips : List Case
 slips =
     -- "An until that is granted by going round the loop for ever."
@@ -86,6 +89,6 @@ slips =
     ∷ holds (one (Next Plain) (two (Until Plain) (one Not (mark Input)) (two And (mark Input) (atom 1)))) 6
     -- "Walking the loop once only, so that F misses what lies before the join."
     ∷ holds (one (Ever Plain) (two And (mark Input) (atom 0))) 9
-    -- G^e by its published target would hold at 5 (M7 says that G^e does not).
+    -- By the published target G^e would hold at 5 (M7 says that it does not).
     ∷ holds (two (Until Plain) (two And (atom 0) (mark Exe)) (one Not (mark Exe))) 5
     ∷ []

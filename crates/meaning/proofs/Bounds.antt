@@ -39,7 +39,7 @@ two-nodes (Until Plain) f g = omega arith
 two-nodes (Until Within) f g = omega arith
 two-nodes (Until (Each s)) f g = omega arith
 
--- At most 704 nodesOf for 64, and 76 levels for 16.
+-- At most 704 nodes for 64, and 76 levels for 16.
 pub bounded : (f : Requirement) → (nodesOf (translate f) ≤ 11 * nodesOf f) × (1 ≤ depthOf f) × (depthOf (translate f) + 4 ≤ 5 * depthOf f)
 unfolding translate nodesOf depthOf
 bounded (atom k) = omega arith

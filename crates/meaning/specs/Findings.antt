@@ -21,11 +21,12 @@ pub record Findings (t : Trace) (f : Requirement) (found : List ℕ) : Type 0 wh
   pub ascending : Ascending 0 found
   pub exactly : (i : ℕ) → List·Memᴰ i found ↔ ((i < t .len) × (t .phaseAt i ≡ Input) × (¬ Holds (endless t) f i))
 
--- The positions among the k from i on at which a test holds, ascending.
+-- A position in front of a list, if the test says so.
 abbrev pub put : Bool → ℕ → List ℕ → List ℕ
 put true i l = i ∷ l
 put false i l = l
 
+-- The positions among the k from i on at which a test holds, ascending.
 unfoldable pub select : (ℕ → Bool) → ℕ → ℕ → List ℕ
 select b zero i = []
 select b (suc k) i = put (b i) i (select b k (suc i))

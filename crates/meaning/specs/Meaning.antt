@@ -33,7 +33,8 @@ pub data Nth (r : Run) (p : Phase) : ℕ → ℕ → ℕ → Type 0 where
   tail : {n l k m : ℕ} → First r p n l → Nth r p (suc l) k m → Nth r p n (suc k) m
 
 -- The four temporal operators, each in its families; P and Q say at which moments the operands hold. Plain ones are as ever. "The e operators look
--- below the first Output at or after the moment", at Exe moments (000: "not in S_i or S_o"). The i and o operators look at their sequence.
+-- below the first Output at or after the moment", at Exe moments (those in neither of 000's S_i and S_o): so F^e, G^e and U^e. X^e is 000's own
+-- clause, which has no such bound. The i and o operators look at their sequence.
 
 -- X. X^e: the next moment is Exe, and the operand holds there. "X^i is the second of that sequence."
 unfoldable pub NextOf : Run → Family → (ℕ → Type 0) → ℕ → Type 0

@@ -21,7 +21,7 @@ use Rattle.requirement.proofs.Codes.{read-is-code}
 use Rattle.requirement.proofs.Walking.{walk-of-parsed}
 use Rattle.meaning.specs.Translation.{translate}
 use Rattle.translate.specs.Writing.{untranslated, roomAsked, translation, answered, translated, Wrote}
-use Rattle.translate.specs.declared.Spot.{Spot}
+use Rattle.translate.specs.declared.tree.Spot.{Spot}
 use Rattle.translate.proofs.Fitting.{room-for-code}
 use Rattle.translate.proofs.Agreement.{translation-fits}
 

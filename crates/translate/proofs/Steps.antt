@@ -19,7 +19,7 @@ use Rattle.requirement.specs.declared.NodeRead.the-variants.{Found, Fault}
 use Rattle.requirement.proofs.Walking.{walk-down, atom-to-31}
 use Rattle.meaning.specs.Translation.{translate}
 use Rattle.translate.specs.Writing.{untranslated, oneBefore, oneBehind, twoBefore, twoBetween, twoBehind, Put, Wrote}
-use Rattle.translate.specs.declared.Spot.{Spot}
+use Rattle.translate.specs.declared.tree.Spot.{Spot}
 use Rattle.translate.proofs.Codes.{one-code, two-code}
 use Rattle.translate.proofs.Putting.{put-length, joined}
 

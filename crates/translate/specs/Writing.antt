@@ -27,7 +27,7 @@ use Rattle.requirement.specs.declared.Two.{Two}
 use Rattle.requirement.specs.declared.Two.the-variants.{And, Until}
 use Rattle.meaning.specs.Phases.{phaseOf}
 use Rattle.meaning.specs.Translation.{translate}
-use Rattle.translate.specs.declared.Spot.{Spot}
+use Rattle.translate.specs.declared.tree.Spot.{Spot}
 
 -- Translating reads untranslated requirements.
 abbrev pub untranslated : Kind

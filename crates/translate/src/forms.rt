@@ -2,11 +2,13 @@
 use requirement::End;
 use requirement::Family;
 use requirement::One;
+use requirement::Phase;
 use requirement::Two;
 ghost use mathlib.Core.Path.{_≡_};
 ghost use Prim.Native.Nat.{_≤_};
 ghost use mathlib.Core.List.{[], _∷_};
 ghost use lib.ListN.{length};
+ghost use Rattle.requirement.specs.Tags.{markNo};
 ghost use Rattle.translate.specs.Writing.{markOf, nextBefore, everBefore, alwaysBefore, oneBefore, oneBehind, twoBefore, twoBetween, twoBehind, Put};
 
 // Puts one byte at a place, if there is room. The place after it.
@@ -35,12 +37,22 @@ pub fn put_all(bytes: &[u8], out: &mut [u8], place: usize) -> usize
     at
 }
 
+pub fn mark_number(mark: Phase) -> u8
+    ensures { λ r. ⌜ r ≡ markNo mark ⌝ }
+{
+    match mark {
+        Phase::Input => 3,
+        Phase::Exe => 4,
+        Phase::Output => 5,
+    }
+}
+
 fn mark_of(end: End) -> u8
     ensures { λ r. ⌜ r ≡ markOf end ⌝ }
 {
     match end {
-        End::Reads => 3,
-        End::Writes => 5,
+        End::Reads => mark_number(Phase::Input),
+        End::Writes => mark_number(Phase::Output),
     }
 }
 

@@ -12,12 +12,6 @@ ghost use Rattle.coding.specs.Room.{stored};
 ghost use Rattle.requirement.specs.Reading.{parsed};
 ghost use Rattle.translate.specs.Writing.{translated, translation, untranslated};
 
-// Where the recursion stands: the place after the code that was read, and the place after what was written.
-pub struct Spot {
-    pub at: usize,
-    pub place: usize,
-}
-
 // Translates a requirement: how many bytes, or a refusal.
 pub fn translate(code: &[u8], out: &mut [u8]) -> Answer
     ensures { λ r. ⌜ (r ≡ translated (now (code .entry)) (now (out .entry)))

@@ -1,27 +1,20 @@
 // The recursion over a requirement's nodes: operands are translated first, one level less deep.
-use crate::Spot;
 use crate::forms;
 use requirement::Kind;
 use requirement::Node;
 use requirement::NodeRead;
 use requirement::One;
-use requirement::Phase;
 use requirement::Two;
 ghost use mathlib.Core.Path.{_≡_};
 ghost use Prim.Native.Nat.{_≤_};
 ghost use lib.ListN.{length};
-ghost use Rattle.requirement.specs.Tags.{markNo};
 ghost use Rattle.requirement.specs.Walking.{walkAt, overOne, overTwo};
 ghost use Rattle.translate.specs.Writing.{untranslated, Wrote};
 
-fn mark_number(mark: Phase) -> u8
-    ensures { λ r. ⌜ r ≡ markNo mark ⌝ }
-{
-    match mark {
-        Phase::Input => 3,
-        Phase::Exe => 4,
-        Phase::Output => 5,
-    }
+// Where the recursion stands: the place after the code that was read, and the place after what was written.
+pub struct Spot {
+    pub at: usize,
+    pub place: usize,
 }
 
 // The node whose code begins at `at`, at most `depth` deep, translated into `out` from a place on.
@@ -51,7 +44,7 @@ pub fn translate_node(code: &[u8], at: usize, depth: u16, out: &mut [u8], place:
                 }
             }
             Node::Mark(mark) => {
-                let end = forms::put_all(&[mark_number(mark)], out, place);
+                let end = forms::put_all(&[forms::mark_number(mark)], out, place);
                 Spot {
                     at: next,
                     place: end,

@@ -19,6 +19,14 @@ pub enum Cause {
     AtomAbove31,
     /// "node or depth limit passed"
     LimitPassed,
+    /// "no rule for the action"
+    NoRule,
+    /// "65th action"
+    TooManyActions,
+    /// "a state numbered above 4,096 would arise"
+    TooManyStates,
+    /// "end state differs"
+    EndStateDiffers,
     /// "trace length 0, over 20,480 or not a multiple of 5"
     TraceLength,
     /// "loop start not below the position count"
@@ -45,6 +53,10 @@ impl Cause {
             Cause::TagNotAllowed => 3,
             Cause::AtomAbove31 => 3,
             Cause::LimitPassed => 4,
+            Cause::NoRule => 5,
+            Cause::TooManyActions => 6,
+            Cause::TooManyStates => 7,
+            Cause::EndStateDiffers => 8,
             Cause::TraceLength => 9,
             Cause::LoopStart => 9,
             Cause::Phase => 9,

@@ -4,7 +4,7 @@ use mathlib.Core.Path.{refl, sym, _∙_}
 use lib.ListN.{length}
 use Rattle.bits.specs.Rows.{rowOf}
 use Rattle.lasso.proofs.WellFormed.{accepted-is-well-formed}
-use Rattle.judge.proofs.Accepting.{code-whole, code-refused, trace-refused, work-short, list-short, all-fine, asked-most, inputs-few, part-few, room-fine, row-fits, list-fits, accepted}
+use Rattle.judge.proofs.Accepting.{code-whole, code-refused, trace-refused, work-short, list-short, all-fine, asked-most, row-adds, wanted-most, less-none, part-few, room-fine, row-fits, list-fits, accepted}
 use borrow.Author.Needs.{needs}
 use Rattle.judge.proofs.judge.Statement.{statement}
 use Rattle.judge.proofs.judge.Tie as tie
@@ -42,7 +42,7 @@ add-row : tie.Need-add-row
 add-row c =
     let a = c .before .before .before .before .before .before .before .before .before .before .before .before .before .args in
     let l = accepted-is-well-formed a.trace.now a.start _ (sym (c .before .before .before .check2 .ensures) ∙ c .before .n .given .1) in
-    record { fits = omega (arith, l .most) }
+    record { fits = row-adds l }
 
 cast-asked : tie.Need-cast-asked
 cast-asked c = search needs
@@ -66,13 +66,13 @@ mul-wanted : tie.Need-mul-wanted
 mul-wanted c =
     let a = c .before .before .before .before .before .before .before .before .before .before .before .before .before .before .before .args in
     let l = accepted-is-well-formed a.trace.now a.start _ (sym (c .before .before .before .before .before .check2 .ensures) ∙ c .before .before .before .n .given .1) in
-    record { fits = omega (arith, inputs-few l, c .count-inputs .ensures) }
+    record { fits = wanted-most l _ (c .count-inputs .ensures) }
 
 returns-2 : tie.Need-returns-2
 returns-2 c =
     let a = c .before .before .before .before .before .before .before .before .before .before .before .before .before .before .before .before .args in
     let h = code-whole a.kind a.code.now _ _ (c .before .before .before .before .before .before .before .before .before .before .check .ensures) (c .before .before .before .before .before .before .before .before .depth .given .1) in
-    rw (list-short h a.trace.now a.start (length a.work.now) (length a.list.now) (sym (c .before .before .before .before .before .before .check2 .ensures) ∙ c .before .before .before .before .n .given .1) (omega arith) _ (c .before .count-inputs .ensures) (c .if2 .taken))
+    rw (list-short h a.trace.now a.start (length a.work.now) (length a.list.now) (sym (c .before .before .before .before .before .before .check2 .ensures) ∙ c .before .before .before .before .n .given .1) (c .before .before .if1 .left) _ (c .before .count-inputs .ensures) (c .if2 .taken))
     (refl, refl, refl)
 
 judge-rows-requires : tie.Need-judge-rows-requires
@@ -80,7 +80,7 @@ judge-rows-requires c κs =
     let a = c .before .before .before .before .before .before .before .before .before .before .before .before .before .before .before .before .before .args in
     let h = code-whole a.kind a.code.now _ _ (c .before .before .before .before .before .before .before .before .before .before .before .check .ensures) (c .before .before .before .before .before .before .before .before .before .depth .given .1) in
     let l = accepted-is-well-formed a.trace.now a.start _ (sym (c .before .before .before .before .before .before .before .check2 .ensures) ∙ c .before .before .before .before .before .n .given .1) in
-    room-fine h l a.work.now (omega arith)
+    room-fine h l a.work.now (c .before .before .before .if1 .left)
 
 sub-list-row : tie.Need-sub-list-row
 sub-list-row c = search needs
@@ -94,7 +94,7 @@ part-list-row-end c =
     let h = code-whole a.kind a.code.now _ _ (c .before .before .before .before .before .before .before .before .before .before .before .before .before .before .before .check .ensures) (c .before .before .before .before .before .before .before .before .before .before .before .before .before .depth .given .1) in
     let l = accepted-is-well-formed a.trace.now a.start _ (sym (c .before .before .before .before .before .before .before .before .before .before .before .check2 .ensures) ∙ c .before .before .before .before .before .before .before .before .before .n .given .1) in
     let size = c .before .before .before .judge-rows .kept .1 .1 .1 .1 .1 .0 in
-    omega (arith, row-fits h l a.work.now (omega arith))
+    row-fits h l a.work.now (c .before .before .before .judge-rows .last .1 .1 .1 .1 .1 .0) size (c .before .before .before .before .before .before .before .if1 .left)
 
 list-row-requires : tie.Need-list-row-requires
 list-row-requires c κs =
@@ -103,10 +103,10 @@ list-row-requires c κs =
     let l = accepted-is-well-formed a.trace.now a.start _ (sym (c .before .before .before .before .before .before .before .before .before .before .before .before .before .check2 .ensures) ∙ c .before .before .before .before .before .before .before .before .before .before .before .n .given .1) in
     let size = c .before .before .before .before .before .judge-rows .kept .1 .1 .1 .1 .1 .0 in
     let w = c .before .before .before .before .before .judge-rows .last .1 .1 .1 .1 .1 .0 in
-    let room = row-fits h l a.work.now (omega arith) in
-    let k = rowOf (c .before .before .before .before .before .before .before .before .before .before .before .n .given .0 .0) - 0 in (
-      part-few l w k (omega arith),
-      list-fits h l w (c .before .before .before .before .before .judge-rows .result) k (omega arith) (omega (arith, l .count)) (c .before .before .before .before .before .judge-rows .ensures) (length a.list.now) (omega (arith, c .before .before .before .before .before .before .before .before .count-inputs .ensures)),
+    let room = row-fits h l a.work.now w size (c .before .before .before .before .before .before .before .before .before .if1 .left) in
+    let r = rowOf (c .before .before .before .before .before .before .before .before .before .before .before .n .given .0 .0) in (
+      part-few l w (r - 0) (less-none r),
+      list-fits h l w (c .before .before .before .before .before .judge-rows .result) (r - 0) (less-none r) room (c .before .before .before .before .before .judge-rows .ensures) _ (length a.list.now) (c .before .before .before .before .before .before .before .before .count-inputs .ensures) (c .before .before .before .before .before .before .before .if2 .left),
     )
 
 clear-requires : tie.Need-clear-requires
@@ -124,10 +124,10 @@ returns-4 c =
     rw (trace-refused h a.trace.now a.start (length a.work.now) (length a.list.now) (sym (c .before .before .before .check2 .ensures) ∙ c .before .cause2 .given .1)) (refl, refl, refl)
 
 same-length : tie.Need-same-length
-same-length c = search needs
+same-length c = c .before .before .clear .kept .0 ∙ c .before .before .before .before .before .before .before .before .before .before .before .before .judge-rows .kept .1 .1 .1 .1 .1 .0
 
 same-length-2 : tie.Need-same-length-2
-same-length-2 c = search needs
+same-length-2 c = c .before .before .before .before .before .before .list-row .kept .1 .0
 
 returns-5 : tie.Need-returns-5
 returns-5 c =
@@ -136,9 +136,10 @@ returns-5 c =
     let l = accepted-is-well-formed a.trace.now a.start _ (sym (c .before .before .before .before .before .before .before .before .before .before .before .before .before .before .before .before .before .before .before .before .check2 .ensures) ∙ c .before .before .before .before .before .before .before .before .before .before .before .before .before .before .before .before .before .before .n .given .1) in
     let size = c .before .before .before .before .before .before .before .before .before .before .before .before .judge-rows .kept .1 .1 .1 .1 .1 .0 in
     let w = c .before .before .before .before .before .before .before .before .before .before .before .before .judge-rows .last .1 .1 .1 .1 .1 .0 in
-    let room = row-fits h l a.work.now (omega arith) in
-    rw (all-fine h a.trace.now a.start (length a.work.now) (length a.list.now) (sym (c .before .before .before .before .before .before .before .before .before .before .before .before .before .before .before .before .before .before .before .before .check2 .ensures) ∙ c .before .before .before .before .before .before .before .before .before .before .before .before .before .before .before .before .before .before .n .given .1) (omega arith) _ (c .before .before .before .before .before .before .before .before .before .before .before .before .before .before .before .count-inputs .ensures) (omega arith))
-    (accepted h l w (c .before .before .before .before .before .before .before .before .before .before .before .before .judge-rows .result) (rowOf (c .before .before .before .before .before .before .before .before .before .before .before .before .before .before .before .before .before .before .n .given .0 .0) - 0) (omega arith) (omega (arith, l .count)) (c .before .before .before .before .before .before .before .before .before .before .before .before .judge-rows .ensures)
+    let room = row-fits h l a.work.now w size (c .before .before .before .before .before .before .before .before .before .before .before .before .before .before .before .before .if1 .left) in
+    let r = rowOf (c .before .before .before .before .before .before .before .before .before .before .before .before .before .before .before .before .before .before .n .given .0 .0) in
+    rw (all-fine h a.trace.now a.start (length a.work.now) (length a.list.now) (sym (c .before .before .before .before .before .before .before .before .before .before .before .before .before .before .before .before .before .before .before .before .check2 .ensures) ∙ c .before .before .before .before .before .before .before .before .before .before .before .before .before .before .before .before .before .before .n .given .1) (c .before .before .before .before .before .before .before .before .before .before .before .before .before .before .before .before .if1 .left) _ (c .before .before .before .before .before .before .before .before .before .before .before .before .before .before .before .count-inputs .ensures) (c .before .before .before .before .before .before .before .before .before .before .before .before .before .before .if2 .left))
+    (accepted h l w (c .before .before .before .before .before .before .before .before .before .before .before .before .judge-rows .result) (r - 0) (less-none r) room (c .before .before .before .before .before .before .before .before .before .before .before .before .judge-rows .ensures)
     a.work.now a.list.now _ _ size (c .before .before .clear .ensures) (c .before .before .before .before .before .before .list-row .ensures))
 
 pub judge-spec : {M : Type 1} → statement M

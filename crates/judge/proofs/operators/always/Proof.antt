@@ -1,7 +1,6 @@
 use mathlib.Core.Path.{refl, ap, _∙_}
 use mathlib.Core.Bool.{not}
-use Rattle.judge.proofs.Composing.{until-of}
-use borrow.Author.Needs.{needs}
+use Rattle.judge.proofs.Composing.{until-of, as-long, one-row}
 use Rattle.judge.proofs.operators.always.Statement.{statement}
 use Rattle.judge.proofs.operators.always.Tie as tie
 use Rattle.judge.proofs.operators.always.Reads as reads
@@ -10,16 +9,16 @@ use Rattle.judge.proofs.operators.ever.Reads as ever-reads
 use Rattle.judge.proofs.operators.turn.Reads as turn-reads
 
 turn-requires : tie.Need-turn-requires
-turn-requires c κs = search needs
+turn-requires c κs = one-row (c .before .before .before .pre) refl
 
 ever-requires : tie.Need-ever-requires
-ever-requires c κs = search needs
+ever-requires c κs = as-long (c .before .before .before .before .before .before .before .pre) (c .before .before .before .turn .kept .1 .1 .0)
 
 turn-requires-2 : tie.Need-turn-requires-2
-turn-requires-2 c κs = search needs
+turn-requires-2 c κs = one-row (c .before .before .before .before .before .before .before .before .before .before .before .pre) (c .before .before .before .ever .kept .1 .1 .0 ∙ c .before .before .before .before .before .before .before .turn .kept .1 .1 .0)
 
 same-length : tie.Need-same-length
-same-length c = search needs
+same-length c = c .before .before .turn2 .kept .1 .1 .0 ∙ c .before .before .before .before .before .before .ever .kept .1 .1 .0 ∙ c .before .before .before .before .before .before .before .before .before .before .turn .kept .1 .1 .0
 
 returns : tie.Need-returns
 returns c = λ p h. c .before .before .turn2 .ensures p h ∙ ap not (until-of (c .before .before .before .before .before .before .before .before .before .before .before .before .before .before .pre) (c .before .before .before .before .before .before .ever .ensures) (λ q l. refl) (c .before .before .before .before .before .before .before .before .before .before .turn .ensures) p h)

@@ -1,6 +1,5 @@
-use mathlib.Core.Path.{_∙_}
-use Rattle.judge.proofs.Composing.{until-of}
-use borrow.Author.Needs.{needs}
+use mathlib.Core.Path.{_∙_, refl}
+use Rattle.judge.proofs.Composing.{until-of, as-long, one-row}
 use Rattle.judge.proofs.operators.always_within.Statement.{statement}
 use Rattle.judge.proofs.operators.always_within.Tie as tie
 use Rattle.judge.proofs.operators.always_within.Reads as reads
@@ -10,16 +9,16 @@ use Rattle.judge.proofs.operators.keep.Reads as keep-reads
 use Rattle.judge.proofs.operators.until.Reads as until-reads
 
 keep-requires : tie.Need-keep-requires
-keep-requires c κs = search needs
+keep-requires c κs = one-row (c .before .before .before .pre) refl
 
 fill-second-requires : tie.Need-fill-second-requires
-fill-second-requires c κs = search needs
+fill-second-requires c κs = as-long (c .before .before .before .before .before .before .before .pre) (c .before .before .before .keep .kept .1 .1 .1 .0)
 
 until-requires : tie.Need-until-requires
-until-requires c κs = search needs
+until-requires c κs = as-long (c .before .before .before .before .before .before .before .before .before .before .before .pre) (c .before .before .before .fill-second .kept .1 .1 .1 .0 ∙ c .before .before .before .before .before .before .before .keep .kept .1 .1 .1 .0)
 
 same-length : tie.Need-same-length
-same-length c = search needs
+same-length c = c .before .before .until .kept .1 .1 .0 ∙ c .before .before .before .before .before .before .fill-second .kept .1 .1 .1 .0 ∙ c .before .before .before .before .before .before .before .before .before .before .keep .kept .1 .1 .1 .0
 
 returns : tie.Need-returns
 returns c = until-of (c .before .before .before .before .before .before .before .before .before .before .before .before .before .before .pre) (c .before .before .until .ensures) (λ q l. c .before .before .before .before .before .before .fill-second .ensures .0 q l ∙ c .before .before .before .before .before .before .before .before .before .before .keep .ensures q l) (c .before .before .before .before .before .before .fill-second .ensures .1)

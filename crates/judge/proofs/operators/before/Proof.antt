@@ -1,6 +1,6 @@
-use mathlib.Core.Path.{_∙_}
+use mathlib.Core.Path.{_∙_, refl}
 use native.Mathlib.Omega.{arith}
-use Rattle.judge.proofs.Composing.{until-of, kept}
+use Rattle.judge.proofs.Composing.{until-of, kept, as-long, one-row}
 use borrow.Author.Needs.{needs}
 use Rattle.judge.proofs.operators.before.Statement.{statement}
 use Rattle.judge.proofs.operators.before.Tie as tie
@@ -15,19 +15,19 @@ add-row : tie.Need-add-row
 add-row c = search needs
 
 keep-requires : tie.Need-keep-requires
-keep-requires c κs = search needs
+keep-requires c κs = one-row (c .before .before .before .pre) refl
 
 copy-up-requires : tie.Need-copy-up-requires
 copy-up-requires c κs = search needs
 
 lack-requires : tie.Need-lack-requires
-lack-requires c κs = search needs
+lack-requires c κs = as-long (c .before .before .before .before .before .before .before .before .before .before .before .pre) (c .before .before .before .copy-up .kept .0 ∙ c .before .before .before .before .before .before .before .keep .kept .1 .1 .1 .0)
 
 until-requires : tie.Need-until-requires
-until-requires c κs = search needs
+until-requires c κs = as-long (c .before .before .before .before .before .before .before .before .before .before .before .before .before .before .before .pre) (c .before .before .before .lack .kept .1 .1 .1 .0 ∙ c .before .before .before .before .before .before .before .copy-up .kept .0 ∙ c .before .before .before .before .before .before .before .before .before .before .before .keep .kept .1 .1 .1 .0)
 
 same-length : tie.Need-same-length
-same-length c = search needs
+same-length c = c .before .before .until .kept .1 .1 .0 ∙ c .before .before .before .before .before .before .lack .kept .1 .1 .1 .0 ∙ c .before .before .before .before .before .before .before .before .before .before .copy-up .kept .0 ∙ c .before .before .before .before .before .before .before .before .before .before .before .before .before .before .keep .kept .1 .1 .1 .0
 
 returns : tie.Need-returns
 returns c = let a = c .before .before .before .before .before .before .before .before .before .before .before .before .before .before .before .before .before .before .args in

@@ -1,5 +1,5 @@
 use mathlib.Core.Path.{refl, _∙_}
-use Rattle.judge.proofs.Composing.{until-of, kept}
+use Rattle.judge.proofs.Composing.{until-of, kept, as-long, one-row}
 use borrow.Author.Needs.{needs}
 use Rattle.judge.proofs.operators.ever_in.Statement.{statement}
 use Rattle.judge.proofs.operators.ever_in.Tie as tie
@@ -14,13 +14,13 @@ enum-told : tie.Need-enum-told
 enum-told c = search needs
 
 ever-requires : tie.Need-ever-requires
-ever-requires c κs = search needs
+ever-requires c κs = c .before .before .before .before .before .pre
 
 enum-told-2 : tie.Need-enum-told-2
 enum-told-2 c = search needs
 
 ever-within-requires : tie.Need-ever-within-requires
-ever-within-requires c κs = search needs
+ever-within-requires c κs = c .before .before .before .before .before .pre
 
 enum-known-family : tie.Need-enum-known-family
 enum-known-family c = search needs
@@ -29,25 +29,25 @@ phase-of-requires : tie.Need-phase-of-requires
 phase-of-requires c κs = search needs
 
 keep-requires : tie.Need-keep-requires
-keep-requires c κs = search needs
+keep-requires c κs = one-row (c .before .before .before .before .before .before .before .pre) refl
 
 ever-requires-2 : tie.Need-ever-requires-2
-ever-requires-2 c κs = search needs
+ever-requires-2 c κs = as-long (c .before .before .before .before .before .before .before .before .before .before .before .pre) (c .before .before .before .keep .kept .1 .1 .1 .0)
 
 same-length : tie.Need-same-length
-same-length c = search needs
+same-length c = c .before .before .ever .kept .1 .1 .0
 
 returns : tie.Need-returns
 returns c = rw (c .before .before .before .before .enum-told .given .1) (c .before .before .ever .ensures)
 
 same-length-2 : tie.Need-same-length-2
-same-length-2 c = search needs
+same-length-2 c = c .before .before .ever-within .kept .1 .1 .0
 
 returns-2 : tie.Need-returns-2
 returns-2 c = rw (c .before .before .before .before .enum-told2 .given .1) (c .before .before .ever-within .ensures)
 
 same-length-3 : tie.Need-same-length-3
-same-length-3 c = search needs
+same-length-3 c = c .before .before .ever2 .kept .1 .1 .0 ∙ c .before .before .before .before .before .before .keep .kept .1 .1 .1 .0
 
 returns-3 : tie.Need-returns-3
 returns-3 c = let a = c .before .before .before .before .before .before .before .before .before .before .before .before .before .before .args in

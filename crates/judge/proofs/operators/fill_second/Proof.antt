@@ -1,9 +1,5 @@
 use mathlib.Core.Path.{_∙_}
-use Prim.Native.Nat.{_/_}
-use native.Mathlib.Omega.{arith}
-use lib.ListN.{length}
-use Rattle.bits.specs.Rows.{rowOf}
-use Rattle.judge.proofs.Composing.{mark-is, second-back}
+use Rattle.judge.proofs.Composing.{mark-is, row-fits, second-length, second-back}
 use borrow.Author.Needs.{needs}
 use Rattle.judge.proofs.operators.fill_second.Statement.{statement}
 use Rattle.judge.proofs.operators.fill_second.Tie as tie
@@ -22,7 +18,7 @@ sub-fill-mark : tie.Need-sub-fill-mark
 sub-fill-mark c = search needs
 
 part-fill-mark-start : tie.Need-part-fill-mark-start
-part-fill-mark-start c = search needs
+part-fill-mark-start c = row-fits (c .before .before .before .pre)
 
 part-fill-mark-end : tie.Need-part-fill-mark-end
 part-fill-mark-end c = search needs
@@ -31,12 +27,11 @@ fill-mark-requires : tie.Need-fill-mark-requires
 fill-mark-requires c κs = search needs
 
 same-length : tie.Need-same-length
-same-length c = search needs
+same-length c = second-length (c .before .before .before .before .before .before .before .pre) (c .before .before .fill-mark .last .1 .1 .0) (c .before .before .fill-mark .kept .1 .1 .0)
 
 returns : tie.Need-returns
-returns c = let a = c .before .before .before .before .before .before .before .args in
-    second-back (length a.trace.now / 5) (rowOf (length a.trace.now / 5)) a.work.now (omega arith) (omega (arith, c .before .before .before .before .before .before .before .pre .room)) _ _ (c .before .before .fill-mark .kept .1 .1 .0)
-    (λ p h. c .before .before .fill-mark .ensures p h ∙ mark-is (c .before .before .before .before .before .before .before .pre) _ _ (c .before .before .before .before .phase-number .ensures) p h)
+returns c = let h = c .before .before .before .before .before .before .before .pre in
+    second-back h _ _ (c .before .before .fill-mark .kept .1 .1 .0) (λ p l. c .before .before .fill-mark .ensures p l ∙ mark-is h _ _ (c .before .before .before .before .phase-number .ensures) p l)
 
 pub fill-second-spec : {M : Type 1} → statement M
 fill-second-spec =

@@ -1,8 +1,7 @@
 use mathlib.Core.Path.{ap, _∙_}
 use mathlib.Core.Bool.{Bool, not, _&&_}
 use Rattle.judge.specs.Working.{isAt}
-use Rattle.judge.proofs.Composing.{implied}
-use borrow.Author.Needs.{needs}
+use Rattle.judge.proofs.Composing.{implied, as-long}
 use Rattle.judge.proofs.operators.imply.Statement.{statement}
 use Rattle.judge.proofs.operators.imply.Tie as tie
 use Rattle.judge.proofs.operators.imply.Reads as reads
@@ -11,16 +10,16 @@ use Rattle.judge.proofs.operators.keep.Reads as keep-reads
 use Rattle.judge.proofs.operators.turn.Reads as turn-reads
 
 turn-requires : tie.Need-turn-requires
-turn-requires c κs = search needs
+turn-requires c κs = c .before .before .before .pre
 
 keep-requires : tie.Need-keep-requires
-keep-requires c κs = search needs
+keep-requires c κs = as-long (c .before .before .before .before .before .before .before .pre) (c .before .before .before .turn .kept .1 .1 .0)
 
 turn-requires-2 : tie.Need-turn-requires-2
-turn-requires-2 c κs = search needs
+turn-requires-2 c κs = as-long (c .before .before .before .before .before .before .before .before .before .before .before .pre) (c .before .before .before .keep .kept .1 .1 .1 .0 ∙ c .before .before .before .before .before .before .before .turn .kept .1 .1 .0)
 
 same-length : tie.Need-same-length
-same-length c = search needs
+same-length c = c .before .before .turn2 .kept .1 .1 .0 ∙ c .before .before .before .before .before .before .keep .kept .1 .1 .1 .0 ∙ c .before .before .before .before .before .before .before .before .before .before .turn .kept .1 .1 .0
 
 returns : tie.Need-returns
 returns c = let a = c .before .before .before .before .before .before .before .before .before .before .before .before .before .before .args in

@@ -1,8 +1,4 @@
-use Prim.Native.Nat.{_/_}
-use native.Mathlib.Omega.{arith}
-use lib.ListN.{length}
-use Rattle.bits.specs.Rows.{rowOf}
-use Rattle.judge.proofs.Composing.{first-back}
+use Rattle.judge.proofs.Composing.{row-fits, first-room, first-length, first-back}
 use borrow.Author.Needs.{needs}
 use Rattle.judge.proofs.operators.lack.Statement.{statement}
 use Rattle.judge.proofs.operators.lack.Tie as tie
@@ -20,17 +16,16 @@ part-fill-lacking-start : tie.Need-part-fill-lacking-start
 part-fill-lacking-start c = search needs
 
 part-fill-lacking-end : tie.Need-part-fill-lacking-end
-part-fill-lacking-end c = search needs
+part-fill-lacking-end c = row-fits (c .before .before .pre)
 
 fill-lacking-requires : tie.Need-fill-lacking-requires
-fill-lacking-requires c κs = search needs
+fill-lacking-requires c κs = first-room (c .before .before .before .pre)
 
 same-length : tie.Need-same-length
-same-length c = search needs
+same-length c = first-length (c .before .before .before .before .before .before .pre) (c .before .before .fill-lacking .last .1 .1 .1 .0) (c .before .before .fill-lacking .kept .1 .1 .1 .0)
 
 returns : tie.Need-returns
-returns c = let a = c .before .before .before .before .before .before .args in
-    first-back (length a.trace.now / 5) (rowOf (length a.trace.now / 5)) a.work.now (omega arith) (omega (arith, c .before .before .before .before .before .before .pre .room)) _ _ (c .before .before .fill-lacking .kept .1 .1 .1 .0) (c .before .before .fill-lacking .ensures)
+returns c = first-back (c .before .before .before .before .before .before .pre) _ _ (c .before .before .fill-lacking .kept .1 .1 .1 .0) (c .before .before .fill-lacking .ensures)
 
 pub lack-spec : {M : Type 1} → statement M
 lack-spec =

@@ -1,12 +1,8 @@
-use Prim.Native.Nat.{_+_, _/_, _≤_}
 use mathlib.Core.Path.{ap, _∙_}
 use mathlib.Core.Bool.{Bool, _&&_}
-use native.Mathlib.Omega.{arith}
-use lib.ListN.{length}
-use Rattle.bits.specs.Rows.{rowOf}
 use Rattle.requirement.specs.declared.Phase.the-variants.{Exe}
 use Rattle.judge.specs.Working.{isAt}
-use Rattle.judge.proofs.Composing.{until-of, first-was, first-back}
+use Rattle.judge.proofs.Composing.{until-of, as-long, row-fits, first-room, first-was, first-length, first-back}
 use borrow.Author.Needs.{needs}
 use Rattle.judge.proofs.operators.until_within.Statement.{statement}
 use Rattle.judge.proofs.operators.until_within.Tie as tie
@@ -26,27 +22,26 @@ part-keep-start : tie.Need-part-keep-start
 part-keep-start c = search needs
 
 part-keep-end : tie.Need-part-keep-end
-part-keep-end c = search needs
+part-keep-end c = row-fits (c .before .before .pre)
 
 keep-requires : tie.Need-keep-requires
-keep-requires c κs = search needs
+keep-requires c κs = first-room (c .before .before .before .pre)
 
 keep-second-requires : tie.Need-keep-second-requires
-keep-second-requires c κs = search needs
+keep-second-requires c κs = as-long (c .before .before .before .before .before .before .before .pre) (first-length (c .before .before .before .before .before .before .before .pre) (c .before .before .before .keep .last .1 .1 .1 .0) (c .before .before .before .keep .kept .1 .1 .1 .0))
 
 until-requires : tie.Need-until-requires
-until-requires c κs = search needs
+until-requires c κs = as-long (c .before .before .before .before .before .before .before .before .before .before .before .pre) (c .before .before .before .keep-second .kept .1 .1 .1 .0 ∙ first-length (c .before .before .before .before .before .before .before .before .before .before .before .pre) (c .before .before .before .before .before .before .before .keep .last .1 .1 .1 .0) (c .before .before .before .before .before .before .before .keep .kept .1 .1 .1 .0))
 
 same-length : tie.Need-same-length
-same-length c = search needs
+same-length c = c .before .before .until .kept .1 .1 .0 ∙ c .before .before .before .before .before .before .keep-second .kept .1 .1 .1 .0 ∙ first-length (c .before .before .before .before .before .before .before .before .before .before .before .before .before .before .pre) (c .before .before .before .before .before .before .before .before .before .before .keep .last .1 .1 .1 .0) (c .before .before .before .before .before .before .before .before .before .before .keep .kept .1 .1 .1 .0)
 
 returns : tie.Need-returns
 returns c = let a = c .before .before .before .before .before .before .before .before .before .before .before .before .before .before .args in
-    let n = length a.trace.now / 5 in
-    let l : rowOf n + rowOf n ≤ length a.work.now = omega (arith, c .before .before .before .before .before .before .before .before .before .before .before .before .before .before .pre .room) in
-    let b = first-back n (rowOf n) a.work.now (omega arith) l _ _ (c .before .before .before .before .before .before .before .before .before .before .keep .kept .1 .1 .1 .0)
-    (λ p h. c .before .before .before .before .before .before .before .before .before .before .keep .ensures p h ∙ ap (λ (b : Bool). b && isAt a.trace.now Exe p) (first-was n (rowOf n) a.work.now (omega arith) l p h)) in
-    until-of (c .before .before .before .before .before .before .before .before .before .before .before .before .before .before .pre) (c .before .before .until .ensures) (λ q m. c .before .before .before .before .before .before .keep-second .ensures .0 q m ∙ b .0 q m) (λ q m. rw (b .1) at (c .before .before .before .before .before .before .keep-second .ensures .1 q m))
+    let h = c .before .before .before .before .before .before .before .before .before .before .before .before .before .before .pre in
+    let b = first-back h _ _ (c .before .before .before .before .before .before .before .before .before .before .keep .kept .1 .1 .1 .0) (λ p l. c .before .before .before .before .before .before .before .before .before .before .keep .ensures p l ∙ ap (λ (b : Bool). b && isAt a.trace.now Exe p) (first-was h p l)) in
+    until-of h (c .before .before .until .ensures) (λ q m. c .before .before .before .before .before .before .keep-second .ensures .0 q m ∙ b .0 q m)
+    (λ q m. rw (b .1) at (c .before .before .before .before .before .before .keep-second .ensures .1 q m))
 
 pub until-within-spec : {M : Type 1} → statement M
 until-within-spec =

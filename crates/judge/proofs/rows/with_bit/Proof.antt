@@ -1,9 +1,7 @@
 use native.Mathlib.Omega.{arith}
-use mathlib.Core.Path.{_≡_}
-use mathlib.Core.Bool.{true, false}
-use Prim.Native.Nat.{_<_, _^_}
-use Rattle.bits.specs.Bits.{bitB, putB}
-use Rattle.bits.proofs.Digits.{put-same, put-up, put-down, put-lt, mask-is}
+use mathlib.Core.Path.{sym, _∙_}
+use Rattle.bits.proofs.Digits.{put-same}
+use Rattle.judge.proofs.Packing.{down-fits, down-is, up-fits, up-is}
 use borrow.Author.Needs.{needs}
 use Rattle.judge.proofs.rows.with_bit.Statement.{statement}
 use Rattle.judge.proofs.rows.with_bit.Tie as tie
@@ -23,33 +21,28 @@ bit-requires c κs = search needs
 sub-result : tie.Need-sub-result
 sub-result c =
     let a = c .before .before .before .args in
-    let t : bitB (a .x) (a .k) ≡ true = cc in
-    omega (arith, put-down (a .x) (a .k) t, mask-is (a .k) (omega arith))
+    down-fits (a .x) (a .k) (c .before .before .before .pre) (sym (c .before .before .bit .ensures) ∙ c .before .if1 .taken)
 
 add-result : tie.Need-add-result
 add-result c =
     let a = c .before .before .before .args in
-    let t : bitB (a .x) (a .k) ≡ false = cc in
-    let l : putB (a .x) (a .k) true < 2 ^ 8 = put-lt 8 (a .x) (a .k) true (omega arith) (omega arith) in
-    omega (arith, put-up (a .x) (a .k) t, mask-is (a .k) (omega arith), l)
+    record { fits = up-fits (a .x) (a .k) (c .before .before .before .pre) (sym (c .before .before .bit .ensures) ∙ c .before .if1 .left) (omega arith) }
 
 returns : tie.Need-returns
-returns c = let a = c .before .before .before .args in put-same (a .x) (a .k) (a .v) (cc)
+returns c = let a = c .before .before .before .args in put-same (a .x) (a .k) (a .v) (sym (c .before .before .bit .ensures) ∙ c .before .if1 .taken ∙ sym (c .if2 .taken))
 
 returns-2 : tie.Need-returns-2
 returns-2 c =
     let a = c .before .before .before .args in
-    let t : bitB (a .x) (a .k) ≡ true = cc in
-    rw (c .if2 .left) (omega (arith, put-down (a .x) (a .k) t, mask-is (a .k) (omega arith)))
+    rw (c .if2 .left) (down-is (a .x) (a .k) (c .before .before .before .pre) (sym (c .before .before .bit .ensures) ∙ c .before .if1 .taken))
 
 returns-3 : tie.Need-returns-3
 returns-3 c =
     let a = c .before .before .before .args in
-    let t : bitB (a .x) (a .k) ≡ false = cc in
-    rw (c .if3 .taken) (omega (arith, put-up (a .x) (a .k) t, mask-is (a .k) (omega arith)))
+    rw (c .if3 .taken) (up-is (a .x) (a .k) (c .before .before .before .pre) (sym (c .before .before .bit .ensures) ∙ c .before .if1 .left))
 
 returns-4 : tie.Need-returns-4
-returns-4 c = let a = c .before .before .before .args in put-same (a .x) (a .k) (a .v) (cc)
+returns-4 c = let a = c .before .before .before .args in put-same (a .x) (a .k) (a .v) (sym (c .before .before .bit .ensures) ∙ c .before .if1 .left ∙ sym (c .if3 .left))
 
 pub with-bit-spec : {M : Type 1} → statement M
 with-bit-spec =

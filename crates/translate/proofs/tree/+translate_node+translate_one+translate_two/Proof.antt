@@ -25,7 +25,7 @@ use Rattle.translate.proofs.forms.put_all.Reads as put-all-reads
 use Rattle.translate.proofs.forms.two_before.Reads as two-before-reads
 use Rattle.translate.proofs.forms.two_behind.Reads as two-behind-reads
 use Rattle.translate.proofs.forms.two_between.Reads as two-between-reads
-use Rattle.translate.proofs.tree.mark_number.Reads as mark-number-reads
+use Rattle.translate.proofs.forms.mark_number.Reads as mark-number-reads
 use Rattle.translate.proofs.tree.+translate_node+translate_one+translate_two.{statement}
 use Rattle.translate.proofs.tree.+translate_node+translate_one+translate_two.Tie.{close}
 
