@@ -1,5 +1,5 @@
 /*
- * The scan-cycle checker: reading and writing its coding, judging and translating requirements.
+ * The scan-cycle checker: reading and writing its coding, running tables, judging and translating requirements.
  *
  * Every function takes any bytes and any numbers, ends, and answers by the numbers of document 01. What is proved of each stands
  * in crates/interface/src/lib.rt. Nothing can check the following here, so the caller must see to it:
@@ -59,6 +59,14 @@ scancheck_told scancheck_write_inputs(uint16_t inputs, const uint16_t *numbers, 
    1,408 bytes, whatever the length), then 1, 3, 4. The rest of out stays as it was; on a refusal all of it. The answer is always accepted as a translated
    requirement, and holds at the same moments of every well-formed trace. */
 scancheck_told scancheck_translate(const uint8_t *code, size_t code_length, uint8_t *out, size_t out_length);
+
+/*
+ * A table run over recorded inputs, by the published rules, into a lasso trace: 5 bytes a position from trace[0] on. first: how many positions; second: the loop
+ * start. Checks in this order: trace under 20,480 bytes (10), the table (1, 2), the inputs (1, 2), then the scans: 6, 5 and 7 at each action, read or write, in
+ * this order, their place the scan, from 1; at the end 8. The bytes behind the last position are zero, whatever is lent. 5 to 8 leave all of trace zero; 1, 2 and
+ * 10 leave it as it was. The trace of a run that closes is always accepted by scancheck_judge.
+ */
+scancheck_told scancheck_run(const uint8_t *table, size_t table_length, const uint8_t *inputs, size_t inputs_length, uint8_t *trace, size_t trace_length);
 
 /*
  * A requirement, untranslated or translated, on a lasso trace (5 bytes a position) whose loop starts at position `start`. first: 1 if it holds at moment 0,

@@ -32,6 +32,8 @@ use Rattle.interface.proofs.scancheck_read_inputs.Kinds as read-inputs
 use Rattle.interface.proofs.scancheck_read_inputs.Reads as read-inputs-reads
 use Rattle.interface.proofs.scancheck_write_inputs.Kinds as write-inputs
 use Rattle.interface.proofs.scancheck_write_inputs.Reads as write-inputs-reads
+use Rattle.interface.proofs.scancheck_run.Kinds as run
+use Rattle.interface.proofs.scancheck_run.Reads as run-reads
 use Rattle.interface.proofs.scancheck_translate.Kinds as translate
 use Rattle.interface.proofs.scancheck_translate.Reads as translate-reads
 use Rattle.interface.proofs.scancheck_find.Kinds as find
@@ -82,6 +84,11 @@ module _ (κs : Lfts 2) (r t : Told) where
   pub find-unique : (a : Dens κs find.ps) (e f : AtExit (endedOf 2 find.ps find.r) κs) →
       find-reads.Post κs a r e → find-reads.Post κs a t f → r ≡ t
   find-unique a e f p q = p ∙ sym q
+
+module _ (κs : Lfts 3) (r t : Told) where
+  pub run-unique : (a : Dens κs run.ps) (e f : AtExit (endedOf 3 run.ps run.r) κs) →
+      run-reads.Post κs a r e → run-reads.Post κs a t f → (r ≡ t) × (now (e .1 .1 .0) ≡ now (f .1 .1 .0))
+  run-unique a e f p q = (p .0 ∙ sym (q .0), p .1 ∙ sym (q .1))
 
 module _ (κs : Lfts 4) (r t : Told) where
   pub judge-unique : (a : Dens κs judge.ps) (e f : AtExit (endedOf 4 judge.ps judge.r) κs) →

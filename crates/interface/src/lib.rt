@@ -6,6 +6,7 @@ use coding::Told;
 use judge::Judged;
 use requirement::Checked;
 use requirement::Kind;
+use run::Ran;
 use sheet::Found;
 ghost use mathlib.Core.Path.{_≡_};
 ghost use Rattle.coding.specs.Number.{numberAt, bytesOf};
@@ -21,6 +22,7 @@ ghost use Rattle.translate.specs.Writing.{translated};
 ghost use Rattle.bits.specs.Bits.{digit};
 ghost use Rattle.lasso.specs.Bytes.{traceOf};
 ghost use Rattle.judge.specs.Judging.{checksOf, judgedTold};
+ghost use Rattle.run.specs.Trace.{numbersIn, runOf, leftIn, ranTold};
 ghost use Rattle.interface.specs.Calls.{kindOf, readTold, readLeaves, writeTold, writeLeaves, translateLeaves, JudgesTold};
 
 fn tell(first: usize, second: usize) -> Told
@@ -86,6 +88,16 @@ fn one_if(holds: bool) -> usize
         return 1;
     }
     0
+}
+
+fn tell_ran(r: Ran) -> Told
+    ensures { λ told. ⌜ told ≡ ranTold r ⌝ }
+{
+    match r {
+        Ran::Closed(n, start) => tell(n, start),
+        Ran::Halted(cause, scan, _) => tell_refusal(cause, scan as usize),
+        Ran::Refused(cause, place) => tell_refusal(cause, place),
+    }
 }
 
 fn tell_judged(j: Judged) -> Told
@@ -197,6 +209,16 @@ pub extern "C" fn scancheck_translate(code: &[u8], out: &mut [u8]) -> Told
     ensures leaves { λ _. ⌜ now (out .exit) ≡ translateLeaves (now (code .entry)) (now (out .entry)) ⌝ }
 {
     tell_answer(translate::translate(code, out))
+}
+
+// Runs a table over recorded inputs into a trace: how many positions, and where the loop starts.
+#[no_mangle]
+pub extern "C" fn scancheck_run(table: &[u8], inputs: &[u8], trace: &mut [u8]) -> Told
+    ensures answers { λ r. ⌜ r ≡ ranTold (runOf (length (now (trace .entry))) (now (table .entry)) (now (inputs .entry))) ⌝ }
+    ensures leaves { λ _. ⌜ now (trace .exit) ≡ leftIn (runOf (length (now (trace .entry))) (now (table .entry)) (now (inputs .entry)))
+        (numbersIn (now (table .entry))) (numbersIn (now (inputs .entry))) (now (trace .entry)) ⌝ }
+{
+    tell_ran(run::run(table, inputs, trace))
 }
 
 // Judges a requirement on a lasso trace: the verdict at moment 0, and how many findings the list then holds.

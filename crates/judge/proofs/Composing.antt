@@ -20,8 +20,8 @@ use Rattle.bits.specs.Bits.{bitAt}
 use Rattle.bits.specs.Rows.{rowOf, afterOf}
 use Rattle.bits.proofs.Bytes.{same-bits, part-before, part-is}
 use Rattle.bits.proofs.Walks.{until-same}
-use Rattle.lasso.specs.Bytes.{positions, phaseFrom, phaseByte, markB, traceOf}
-use Rattle.judge.specs.Working.{Same, Room, phaseNumber, isAt}
+use Rattle.lasso.specs.Bytes.{phaseNumber, positions, phaseFrom, phaseByte, markB, traceOf}
+use Rattle.judge.specs.Working.{Same, Room, isAt}
 
 -- ---- a phase by its byte
 

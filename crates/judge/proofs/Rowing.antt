@@ -35,8 +35,8 @@ use Rattle.bits.specs.Bits.{bitAt}
 use Rattle.bits.specs.Rows.{rowOf}
 use Rattle.bits.proofs.Bytes.{part-before, part-is}
 use Rattle.bits.proofs.Walks.{until-same}
-use Rattle.lasso.specs.Bytes.{positions, phaseFrom, phaseByte, markB, atomB, traceOf}
-use Rattle.judge.specs.Working.{Same, phaseNumber, isAt, Room, oneOf, twoOf, Rowed}
+use Rattle.lasso.specs.Bytes.{phaseNumber, positions, phaseFrom, phaseByte, markB, atomB, traceOf}
+use Rattle.judge.specs.Working.{Same, isAt, Room, oneOf, twoOf, Rowed}
 
 -- ---- rows that agree at the stored positions give, by every operator, rows that agree there
 module _ (t : Trace) (inside : t .loop < t .len) where

@@ -30,7 +30,7 @@ use Rattle.lasso.specs.Checking.{checkTrace}
 use Rattle.judge.specs.declared.Judged.{Judged}
 use Rattle.judge.specs.declared.Judged.the-variants.{Verdict, Refused as NotJudged}
 
--- What the checks come to, "in this order": a refusal, or the requirement that is to be judged.
+-- What the checks come to in the order of that sentence: a refusal, or the requirement that is to be judged.
 pub data Checks : Type 0 where
   stop : Cause → ℕ → Checks
   go : Requirement → Checks

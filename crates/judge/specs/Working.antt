@@ -29,15 +29,9 @@ use Rattle.bits.specs.Rows.{rowOf}
 use Rattle.lasso.specs.Bytes.{positions, phaseFrom, phaseByte, traceOf}
 use Rattle.judge.specs.declared.Tally.{Tally}
 
--- Two tests agree at n positions; a row's bits agree with a test.
+-- Two tests agree at n positions; so a row's bits may agree with a test.
 abbrev pub Same : ℕ → (ℕ → Bool) → (ℕ → Bool) → Type 0
 Same n f g = (p : ℕ) → p < n → f p ≡ g p
-
--- The byte of a phase.
-abbrev pub phaseNumber : Phase → ℕ
-phaseNumber Input = 0
-phaseNumber Exe = 1
-phaseNumber Output = 2
 
 -- Whether position p of the trace has this phase.
 abbrev pub isAt : List ℕ → Phase → ℕ → Bool
@@ -81,7 +75,7 @@ abbrev pub Rowed : Walked → List ℕ → ℕ → List ℕ → ℕ → Type 0
 Rowed (walked f next) trace start work r = (r ≡ next) × Same (positions trace) (bitAt work) (judge (traceOf trace start) f)
 Rowed lost trace start work r = Unit
 
--- The Input positions at which a row has no bit, and how many there are.
+-- Whether position p is an Input at which a row has no bit.
 abbrev pub failing : List ℕ → (ℕ → Bool) → ℕ → Bool
 failing trace row p = isAt trace Input p && not (row p)
 

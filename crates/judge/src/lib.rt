@@ -22,7 +22,7 @@ pub enum Judged {
 }
 
 // The verdict, and how many findings there are.
-pub struct Tally {
+struct Tally {
     pub holds: bool,
     pub count: usize,
 }

@@ -15,18 +15,7 @@ ghost use Rattle.meaning.specs.Translation.{implies};
 ghost use Rattle.bits.specs.Bits.{bitAt};
 ghost use Rattle.bits.specs.Rows.{rowOf};
 ghost use Rattle.lasso.specs.Bytes.{positions, traceOf};
-ghost use Rattle.judge.specs.Working.{Same, phaseNumber, isAt, Room, oneOf, twoOf, everOf, alwaysOf, nextOf, untilOf, within, reachOf};
-
-// The byte of a phase.
-pub fn phase_number(phase: Phase) -> u8
-    ensures { λ r. ⌜ r ≡ phaseNumber phase ⌝ }
-{
-    match phase {
-        Phase::Input => 0,
-        Phase::Exe => 1,
-        Phase::Output => 2,
-    }
-}
+ghost use Rattle.judge.specs.Working.{Same, isAt, Room, oneOf, twoOf, everOf, alwaysOf, nextOf, untilOf, within, reachOf};
 
 // The phase at an end of a scan.
 fn phase_of(end: End) -> Phase
@@ -43,7 +32,7 @@ fn keep(trace: &[u8], start: usize, phase: Phase, work: &mut [u8])
     requires { ⌜ Room 1 (now trace) start (now work) ⌝ }
     ensures { λ _. ⌜ Same (positions (now (trace .entry))) (bitAt (now (work .exit))) (λ p. bitAt (now (work .entry)) p && isAt (now (trace .entry)) phase p) ⌝ }
 {
-    rows::mask_row(trace, phase_number(phase), work);
+    rows::mask_row(trace, lasso::phase_number(phase), work);
 }
 
 // The row turned: not.
@@ -109,7 +98,7 @@ fn fill_lacking(trace: &[u8], start: usize, phase: Phase, work: &mut [u8])
     requires { ⌜ Room 1 (now trace) start (now work) ⌝ }
     ensures { λ _. ⌜ Same (positions (now (trace .entry))) (bitAt (now (work .exit))) (λ p. not (isAt (now (trace .entry)) phase p)) ⌝ }
 {
-    rows::fill_mark(trace, phase_number(phase), work);
+    rows::fill_mark(trace, lasso::phase_number(phase), work);
     turn(trace, start, work);
 }
 
@@ -209,7 +198,7 @@ fn fill_second(trace: &[u8], start: usize, phase: Phase, work: &mut [u8])
         × Same (positions (now (trace .entry))) (bitAt (drop (rowOf (positions (now (trace .entry)))) (now (work .exit)))) (isAt (now (trace .entry)) phase) ⌝ }
 {
     let row = (trace.len() / 5 + 7) / 8;
-    rows::fill_mark(trace, phase_number(phase), &mut work[row..]);
+    rows::fill_mark(trace, lasso::phase_number(phase), &mut work[row..]);
 }
 
 // G^e: (row and Exe) U Output.

@@ -35,7 +35,7 @@ pub fn judge_node(
                 next
             }
             Node::Mark(mark) => {
-                rows::fill_mark(trace, operators::phase_number(mark), work);
+                rows::fill_mark(trace, lasso::phase_number(mark), work);
                 next
             }
             Node::OverOne(operator) => judge_one(

@@ -13,11 +13,17 @@ use Rattle.bits.specs.Bits.{bitB, countB}
 abbrev pub positions : List ℕ → ℕ
 positions s = length s / 5
 
--- "Output (2) .. Input (0) .. Exe (1)". A byte above 2 is no phase: the check refuses a trace that has one, and its value here is then never used.
+-- "Output (2) .. Input (0) .. Exe (1)": the phase of a byte, and the byte of a phase. A byte above 2 is no phase: the check refuses a trace that has one, and its
+-- value here is then never used.
 abbrev pub phaseFrom : ℕ → Phase
 phaseFrom zero = Input
 phaseFrom (suc zero) = Exe
 phaseFrom (suc (suc n)) = Output
+
+abbrev pub phaseNumber : Phase → ℕ
+phaseNumber Input = 0
+phaseNumber Exe = 1
+phaseNumber Output = 2
 
 -- The phase byte of position p, and whether it is this one.
 abbrev pub phaseByte : List ℕ → ℕ → ℕ

@@ -1,11 +1,23 @@
 // The bytes of a lasso trace: well-formed or refused, and what stands at a position.
 use coding::Answer;
 use coding::Cause;
+use requirement::Phase;
 ghost use mathlib.Core.Path.{_≡_};
 ghost use Rattle.bits.specs.Rows.{afterOf};
 ghost use Prim.Native.Nat.{_<_, _-_};
-ghost use Rattle.lasso.specs.Bytes.{positions, phaseByte, inputsIn};
+ghost use Rattle.lasso.specs.Bytes.{phaseNumber, positions, phaseByte, inputsIn};
 ghost use Rattle.lasso.specs.Checking.{lengthOk, mayFollow, stepsFrom, outputFrom, checkTrace};
+
+// The byte of a phase.
+pub fn phase_number(phase: Phase) -> u8
+    ensures { λ r. ⌜ r ≡ phaseNumber phase ⌝ }
+{
+    match phase {
+        Phase::Input => 0,
+        Phase::Exe => 1,
+        Phase::Output => 2,
+    }
+}
 
 // The phase byte of a position; 0 past the end.
 pub fn phase_byte(trace: &[u8], p: usize) -> u8

@@ -27,7 +27,7 @@ benchBytes =
 abbrev pub bench : Trace
 bench = traceOf benchBytes 4
 
--- A marked case, and what it says.
+-- A marked case, and what it says of a lasso.
 pub data Case : Type 0 where
   holds : Requirement → ℕ → Case
   fails : Requirement → ℕ → Case
@@ -35,12 +35,15 @@ pub data Case : Type 0 where
   gives : Requirement → List ℕ → Case
   bytes : ℕ → List ℕ → Case
 
+abbrev pub StatedOn : Trace → Case → Type 0
+StatedOn t (holds f n) = Holds (endless t) f n
+StatedOn t (fails f n) = ¬ Holds (endless t) f n
+StatedOn t (finds f l) = Findings t f l
+StatedOn t (gives f l) = codeOf (translate f) ≡ l
+StatedOn t (bytes n l) = bytesOf n ≡ l
+
 abbrev pub Stated : Case → Type 0
-Stated (holds f n) = Holds (endless bench) f n
-Stated (fails f n) = ¬ Holds (endless bench) f n
-Stated (finds f l) = Findings bench f l
-Stated (gives f l) = codeOf (translate f) ≡ l
-Stated (bytes n l) = bytesOf n ≡ l
+Stated c = StatedOn bench c
 
 -- M1's requirement, not(a0 and not a1).
 abbrev pub answered : Requirement

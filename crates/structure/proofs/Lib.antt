@@ -5,3 +5,4 @@ pub mod Front
 pub mod Values
 pub mod Counts
 pub mod Whole
+pub mod Sizes

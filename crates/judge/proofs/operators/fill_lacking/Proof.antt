@@ -6,7 +6,7 @@ use Rattle.judge.proofs.operators.fill_lacking.Statement.{statement}
 use Rattle.judge.proofs.operators.fill_lacking.Tie as tie
 use Rattle.judge.proofs.operators.fill_lacking.Reads as reads
 use Rattle.judge.proofs.operators.fill_lacking.Lts as lts
-use Rattle.judge.proofs.operators.phase_number.Reads as phase-number-reads
+use Rattle.lasso.proofs.phase_number.Reads as phase-number-reads
 use Rattle.judge.proofs.operators.turn.Reads as turn-reads
 use Rattle.judge.proofs.rows.fill_mark.Reads as fill-mark-reads
 

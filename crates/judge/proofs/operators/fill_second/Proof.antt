@@ -5,7 +5,7 @@ use Rattle.judge.proofs.operators.fill_second.Statement.{statement}
 use Rattle.judge.proofs.operators.fill_second.Tie as tie
 use Rattle.judge.proofs.operators.fill_second.Reads as reads
 use Rattle.judge.proofs.operators.fill_second.Lts as lts
-use Rattle.judge.proofs.operators.phase_number.Reads as phase-number-reads
+use Rattle.lasso.proofs.phase_number.Reads as phase-number-reads
 use Rattle.judge.proofs.rows.fill_mark.Reads as fill-mark-reads
 
 add-row : tie.Need-add-row

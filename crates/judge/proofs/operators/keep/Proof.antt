@@ -7,7 +7,7 @@ use Rattle.judge.proofs.operators.keep.Statement.{statement}
 use Rattle.judge.proofs.operators.keep.Tie as tie
 use Rattle.judge.proofs.operators.keep.Reads as reads
 use Rattle.judge.proofs.operators.keep.Lts as lts
-use Rattle.judge.proofs.operators.phase_number.Reads as phase-number-reads
+use Rattle.lasso.proofs.phase_number.Reads as phase-number-reads
 use Rattle.judge.proofs.rows.mask_row.Reads as mask-row-reads
 
 phase-number-requires : tie.Need-phase-number-requires

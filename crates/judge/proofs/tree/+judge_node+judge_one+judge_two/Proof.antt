@@ -23,7 +23,7 @@ use Rattle.judge.proofs.tree.judge_two.Kinds as judge-two-kinds
 use Rattle.judge.proofs.tree.+judge_node+judge_one+judge_two.Lts-judge_two as judge-two-lts
 use Rattle.judge.proofs.operators.apply_one.Reads as apply-one-reads
 use Rattle.judge.proofs.operators.apply_two.Reads as apply-two-reads
-use Rattle.judge.proofs.operators.phase_number.Reads as phase-number-reads
+use Rattle.lasso.proofs.phase_number.Reads as phase-number-reads
 use Rattle.judge.proofs.rows.fill_atom.Reads as fill-atom-reads
 use Rattle.judge.proofs.rows.fill_mark.Reads as fill-mark-reads
 use Rattle.requirement.proofs.read_node.Reads as read-node-reads

@@ -1,0 +1,7 @@
+pub mod Arrays
+pub mod Cases
+pub mod Raising
+pub mod Lists
+pub mod Alike
+pub mod Equal
+pub mod Unique

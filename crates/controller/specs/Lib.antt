@@ -1,0 +1,5 @@
+pub mod State
+pub mod Rules
+pub mod Actions
+pub mod Tests
+pub mod Same

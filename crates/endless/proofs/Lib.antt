@@ -1,0 +1,14 @@
+pub mod Bench
+pub mod Moves
+pub mod States
+pub mod Accepted
+pub mod Ended
+pub mod Phases
+pub mod Along
+pub mod Stored
+pub mod Formed
+pub mod Laps
+pub mod Agreement
+pub mod Moments
+pub mod Closed
+pub mod Sized

@@ -1,0 +1,6 @@
+pub mod Limits
+pub mod Moves
+pub mod Running
+pub mod Trace
+pub mod Index
+pub mod Walking
