@@ -33,6 +33,14 @@ extern "C" {
         list_length: usize,
     ) -> Told;
     fn scancheck_find(sheet: *const u8, length: usize, name: *const u8, name_length: usize) -> Told;
+    fn scancheck_run(
+        table: *const u8,
+        table_length: usize,
+        inputs: *const u8,
+        inputs_length: usize,
+        trace: *mut u8,
+        trace_length: usize,
+    ) -> Told;
 }
 
 pub fn read_number(code: &[u8], at: usize) -> Told {
@@ -94,4 +102,11 @@ pub fn judge(translated: bool, code: &[u8], trace: &[u8], start: usize, work: &m
 
 pub fn find(sheet: &[u8], name: &[u8]) -> Told {
     unsafe { scancheck_find(sheet.as_ptr(), sheet.len(), name.as_ptr(), name.len()) }
+}
+
+/// Closed: the position count and the loop start.
+pub fn run(table: &[u8], inputs: &[u8], trace: &mut [u8]) -> Told {
+    unsafe {
+        scancheck_run(table.as_ptr(), table.len(), inputs.as_ptr(), inputs.len(), trace.as_mut_ptr(), trace.len())
+    }
 }

@@ -1,16 +1,21 @@
 //! Compares every entry with the second program on random, damaged and extreme inputs.
 //!
 //!     compare [CASES [SEED]]
+//!     compare --program PATH [CASES [SEED]]
 //!
-//! Every lent buffer is filled with a pattern before each call and compared whole after it. Ends with status 1 at the
-//! first difference, which it prints with the seed of its case.
+//! The first compares the C interface: every lent buffer is filled with a pattern before each call and compared whole
+//! after it. The second compares what the program scancheck at PATH prints. Both end with status 1 at the first
+//! difference, which they print with the seed of its case. Case k has seed SEED + k, so two runs share no case if their
+//! seeds are further apart than CASES.
 
 mod calls;
+mod program;
+mod runs;
 mod tally;
 
 use calls::Told;
 use second::code::Code;
-use second::random::{self, Random};
+use second::random::{self, JudgingCase, Random};
 use second::refusal::Refusal;
 use second::requirement::Which;
 use second::{inputs, judging, number, requirement, sheet, table, translation};
@@ -30,38 +35,77 @@ const MUST_REACH: &[(&str, &[u64])] = &[
     ("find", &[0, 1, 2, 11]),
     ("translate", &[0, 1, 3, 4, 10]),
     ("judge", &[0, 1, 3, 4, 9, 10]),
+    ("run", &[0, 1, 2, 5, 6, 7, 8, 10]),
+    ("judge a run's trace", &[0, 10]),
 ];
 
+/// What must have been met besides by the end of a run of full length.
+const MUST_MEET: &[&str] = &[
+    runs::FULL_TABLE,
+    runs::FULL_TABLE_CLOSED,
+    runs::ALL_SCANS,
+    runs::ALL_SCANS_CLOSED,
+    runs::ALL_INPUTS_CLOSED,
+    runs::MOST_POSITIONS,
+    runs::BYTE_SHORT,
+    runs::EXACT_ROOM,
+    runs::MORE_ROOM,
+];
+
+/// A run of full length has so many cases: of the C interface, and of the program.
+const FULL_LENGTH: u64 = 100_000;
+const FULL_LENGTH_OF_PROGRAM: u64 = 5_000;
+
 fn main() {
-    let mut words = std::env::args().skip(1);
-    let cases: u64 = words.next().map_or(100_000, |word| word.parse().expect("CASES is a number"));
+    let mut words = std::env::args().skip(1).peekable();
+    let path = words.next_if(|word| word == "--program").map(|_| words.next().expect("PATH after --program"));
+    let usual = if path.is_some() { FULL_LENGTH_OF_PROGRAM } else { FULL_LENGTH };
+    let cases: u64 = words.next().map_or(usual, |word| word.parse().expect("CASES is a number"));
     let seed: u64 = words.next().map_or_else(from_clock, |word| word.parse().expect("SEED is a number"));
     println!("seed {seed}");
     let mut tally = Tally::default();
     for case in 0..cases {
         let mut random = Random::new(seed.wrapping_add(case));
-        if let Err(difference) = compare_one(&mut random, &mut tally) {
+        let compared = match &path {
+            Some(path) => program::compare_one(path, &mut random, &mut tally),
+            None => compare_one(&mut random, &mut tally),
+        };
+        if let Err(difference) = compared {
             println!("DIFFERENT with seed {}: {difference}", seed.wrapping_add(case));
             std::process::exit(1);
         }
     }
     tally.print();
-    if cases >= 100_000 {
-        for (entry, numbers) in MUST_REACH {
-            for number in *numbers {
-                assert!(tally.reached(entry, *number), "{entry} never answered {number}");
-            }
+    if cases >= usual {
+        match path {
+            Some(_) => check_reached(&tally, program::MUST_REACH, program::MUST_MEET),
+            None => check_reached(&tally, MUST_REACH, MUST_MEET),
         }
     }
     println!("{} comparisons of {cases} cases, 0 differences", tally.cases);
+}
+
+fn check_reached(tally: &Tally, must_reach: &[(&str, &[u64])], must_meet: &[&str]) {
+    for (entry, numbers) in must_reach {
+        for number in *numbers {
+            assert!(tally.reached(entry, *number), "{entry} never answered {number}");
+        }
+    }
+    for what in must_meet {
+        assert!(tally.has_met(what), "{what}: never met");
+    }
 }
 
 fn from_clock() -> u64 {
     std::time::UNIX_EPOCH.elapsed().map_or(1, |time| time.as_nanos() as u64)
 }
 
+/// The kinds of a case, the last three of them runs.
+const KINDS: usize = 15;
+
 fn compare_one(random: &mut Random, tally: &mut Tally) -> Result<(), String> {
-    match random.below(12) {
+    match random.below(KINDS) {
+        12..=14 => runs::runs(random, tally),
         9..=11 => judgings(random, tally),
         8 => translations(random, tally),
         0 => numbers(random, tally),
@@ -282,13 +326,18 @@ fn translations(random: &mut Random, tally: &mut Tally) -> Result<(), String> {
     Ok(())
 }
 
-/// A judging of either kind; where it is accepted and untranslated, the translation's judging too must say the same.
+/// A judging on a made trace: mostly small, some damaged, now and then on 4,096 positions.
 fn judgings(random: &mut Random, tally: &mut Tally) -> Result<(), String> {
     let case = match random.below(2000) {
         0 => random::long_judging_case(random),
         1..=600 => random::damaged_judging_case(random),
         _ => random::judging_case(random),
     };
+    judge_both("judge", &case, tally)
+}
+
+/// A judging of either kind; where it is accepted and untranslated, the translation's judging too must say the same.
+fn judge_both(entry: &'static str, case: &JudgingCase, tally: &mut Tally) -> Result<(), String> {
     let (mut my_work, mut my_list) = (case.work.clone(), case.list.clone());
     let (mut their_work, mut their_list) = (case.work.clone(), case.list.clone());
     let translated = case.which == Which::Translated;
@@ -296,8 +345,8 @@ fn judgings(random: &mut Random, tally: &mut Tally) -> Result<(), String> {
     let answer = judging::judge(case.which, &case.code, &case.trace, case.loop_start, &mut their_work, &mut their_list);
     let wanted = told(answer.map(|judged| (judged.holds as u64, judged.findings as u64)));
     let input = (case.which, &case.code, &case.trace, case.loop_start, case.work.len(), case.list.len());
-    same("judge", &(given, my_work, my_list.clone()), &(wanted, their_work, their_list), &input)?;
-    tally.note("judge", given.refusal);
+    same(entry, &(given, my_work, my_list.clone()), &(wanted, their_work, their_list), &input)?;
+    tally.note(entry, given.refusal);
     if given.refusal == 0 && !translated {
         let mut plain = vec![0; translation::ROOM];
         let length = calls::translate(&case.code, &mut plain).first as usize;

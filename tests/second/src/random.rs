@@ -810,7 +810,8 @@ pub fn small_question(random: &mut Random, which: Which) -> MadeQuestion {
     MadeQuestion { numbers, lasso }
 }
 
-fn truth_varies(numbers: &[u16], which: Which, lasso: &MadeTrace) -> bool {
+/// Does the requirement hold at a stored position, and fail at another?
+pub fn truth_varies(numbers: &[u16], which: Which, lasso: &MadeTrace) -> bool {
     let requirement = check_requirement(Code::Numbers(numbers), which).expect("well-formed");
     let run = EndlessRun::new(&lasso.trace, lasso.loop_start).expect("well-formed");
     let truth = truth_by_position(&requirement.tree, &run);
@@ -886,7 +887,8 @@ fn any_which(random: &mut Random) -> Which {
     random.pick(&[Which::Untranslated, Which::Untranslated, Which::Untranslated, Which::Translated])
 }
 
-fn judging_case_of(random: &mut Random, which: Which, question: MadeQuestion) -> JudgingCase {
+/// A well-formed requirement and lasso with buffers that are mostly long enough.
+pub fn judging_case_of(random: &mut Random, which: Which, question: MadeQuestion) -> JudgingCase {
     let requirement = check_requirement(Code::Numbers(&question.numbers), which).expect("well-formed");
     let MadeTrace { trace, loop_start } = question.lasso;
     let work = lent_buffer(random, work_needed(requirement.depth, trace.len() / 5));

@@ -671,6 +671,57 @@ fn longest_table(random: &mut Random, inputs: u16, updates: usize, more: usize, 
     draft.numbers()
 }
 
+/// The most bytes of numbers that `widest_inputs` can be asked for: three for each but those of two scans.
+pub const WIDEST_MOST: usize = 3 * 32 * 1365 - 2 * 2 * 32;
+
+/// A table with every variable an input, and up to 32 tests. Its one process stops at once, so that every scan has 3 states
+/// and scan 1 one more: 1,365 scans have 4,096.
+pub fn widest_table(random: &mut Random) -> Vec<u16> {
+    let mut numbers = vec![32, 0, 0];
+    let tests = random.between(0, 32);
+    numbers.push(tests as u16);
+    for _ in 0..tests {
+        let kind = random.number_between(0, 1);
+        numbers.extend([kind, random.number_between(0, 31), random.number_between(0, 3)]);
+    }
+    numbers.extend([1, 1, 1]);
+    numbers.extend(STOP);
+    numbers
+}
+
+/// Inputs for it that close: 1,365 scans of 32 numbers, which take so many bytes in all, at least one each. The scan
+/// returned to has two bytes too.
+pub fn widest_inputs(random: &mut Random, bytes: usize) -> Vec<u16> {
+    let count = 32 * 1365;
+    assert!(count <= bytes && bytes <= WIDEST_MOST);
+    let return_scan = random.between(128, 1364);
+    // The last scan and the one returned to have the same numbers, of one byte each.
+    let kept = |index: usize| index / 32 == return_scan - 1 || index / 32 == 1364;
+    let mut lengths = vec![1; count];
+    let mut more = bytes - count;
+    while more > 0 {
+        let index = random.below(count);
+        if !kept(index) && lengths[index] < 3 {
+            lengths[index] += 1;
+            more -= 1;
+        }
+    }
+    let mut values: Vec<u16> = Vec::new();
+    for length in lengths {
+        values.push(match length {
+            1 => random.number_between(0, 3),
+            2 => random.number_between(128, 16383),
+            _ => random.number_between(16384, 65535),
+        });
+    }
+    for input in 0..32 {
+        values[32 * (return_scan - 1) + input] = values[32 * 1364 + input];
+    }
+    let mut numbers = vec![1365, return_scan as u16];
+    numbers.extend(values);
+    numbers
+}
+
 /// A run that is stopped in its last scan by an action with no rule, or by a 65th, where that action would also make state
 /// 4,097, or one near it. The input is 1 in that scan alone.
 fn stopped_at_the_limit(random: &mut Random) -> MadeRun {

@@ -126,14 +126,43 @@ fn made_runs_are_well_formed() {
         let mut buffer = vec![0xEE; 20480];
         let ran = run(&bytes_of_numbers(&made.table), &bytes_of_numbers(&made.inputs), &mut buffer);
         assert_eq!(ran, run_numbers(&made.table, &made.inputs));
-        let of_full_size = table.counts.total() == 32
-            && table.tests.len() == 32
-            && table.processes.len() == 8
-            && table.processes.iter().all(|process| process.states.len() == 8)
-            && table.processes.iter().flat_map(|process| &process.states).all(|state| state.actions.len() == 16);
-        full += of_full_size as usize;
+        full += is_full(&table) as usize;
     }
     assert!(full >= 20, "{full}");
+}
+
+fn is_full(table: &Table) -> bool {
+    table.counts.total() == 32
+        && table.tests.len() == 32
+        && table.processes.len() == 8
+        && table.processes.iter().all(|process| process.states.len() == 8)
+        && table.processes.iter().flat_map(|process| &process.states).all(|state| state.actions.len() == 16)
+}
+
+/// The extreme sizes come among the cases, and runs of them close.
+#[test]
+fn extreme_sizes_come() {
+    let mut counts: BTreeMap<&str, usize> = BTreeMap::new();
+    for seed in 0..CASES {
+        let case = run_case(&mut Random::new(seed));
+        *counts.entry("a byte short").or_default() += (case.room == 20479) as usize;
+        *counts.entry("exact room").or_default() += (case.room == 20480) as usize;
+        *counts.entry("more room").or_default() += (case.room > 20480) as usize;
+        let Ok(table) = check_table(Code::Bytes(&case.table), MOST_PROCESSES) else { continue };
+        let Ok(inputs) = check_inputs(Code::Bytes(&case.inputs), table.counts.inputs as usize) else { continue };
+        let (ran, _) = answer(&case);
+        let closed_with = if let Ran::Closed { positions, .. } = ran { positions } else { 0 };
+        let all_scans = inputs.scans == 1365;
+        *counts.entry("full table").or_default() += is_full(&table) as usize;
+        *counts.entry("full table, closed").or_default() += (is_full(&table) && closed_with > 0) as usize;
+        *counts.entry("1,365 scans").or_default() += all_scans as usize;
+        *counts.entry("1,365 scans, closed").or_default() += (all_scans && closed_with > 0) as usize;
+        *counts.entry("4,096 positions").or_default() += (closed_with == 4096) as usize;
+    }
+    for (what, count) in &counts {
+        assert!(*count >= 4, "{what}: {count}");
+    }
+    assert_eq!(counts.len(), 8);
 }
 
 /// What rule the process whose turn it is will follow, by the words of document 01 and 003.

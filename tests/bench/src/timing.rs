@@ -1,0 +1,58 @@
+//! Taking times: the two sides in turn, many times, and the median of each.
+
+use std::time::Instant;
+
+/// About how long one sample takes, in nanoseconds. A call shorter than this is repeated within the sample.
+const SAMPLE: f64 = 50_000.0;
+
+pub struct Times {
+    /// None: not measured.
+    pub proved: Option<f64>,
+    pub peer: f64,
+    /// Calls of each side.
+    pub repeats: usize,
+}
+
+/// Nanoseconds for each call of both sides.
+pub fn compare(samples: usize, mut proved: impl FnMut(), mut peer: impl FnMut()) -> Times {
+    let proved_batch = batch(&mut proved);
+    let peer_batch = batch(&mut peer);
+    let mut proved_times = Vec::with_capacity(samples);
+    let mut peer_times = Vec::with_capacity(samples);
+    for _ in 0..samples {
+        proved_times.push(sample(proved_batch, &mut proved));
+        peer_times.push(sample(peer_batch, &mut peer));
+    }
+    Times {
+        proved: Some(median(proved_times)),
+        peer: median(peer_times),
+        repeats: samples * proved_batch.min(peer_batch),
+    }
+}
+
+/// Nanoseconds for each call of the peer, where there is nothing to compare it with.
+pub fn alone(samples: usize, mut peer: impl FnMut()) -> Times {
+    let batch = batch(&mut peer);
+    let times = (0..samples).map(|_| sample(batch, &mut peer)).collect();
+    Times { proved: None, peer: median(times), repeats: samples * batch }
+}
+
+/// How many calls make up a sample.
+fn batch(call: &mut impl FnMut()) -> usize {
+    sample(3, call);
+    let once = median((0..5).map(|_| sample(3, call)).collect());
+    ((SAMPLE / once.max(1.0)) as usize).max(1)
+}
+
+fn sample(calls: usize, call: &mut impl FnMut()) -> f64 {
+    let begin = Instant::now();
+    for _ in 0..calls {
+        call();
+    }
+    begin.elapsed().as_nanos() as f64 / calls as f64
+}
+
+fn median(mut times: Vec<f64>) -> f64 {
+    times.sort_by(f64::total_cmp);
+    times[times.len() / 2]
+}
