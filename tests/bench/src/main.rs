@@ -2,9 +2,9 @@
 //!
 //!     bench [SAMPLES [TASK]]
 //!
-//! Prints the median nanoseconds of a call of each side, and their ratio. Before a task is timed, both sides must give
-//! the same answer and leave the same bytes. No time is demanded here. TASK restricts it to the tasks whose name has
-//! that text. What stands behind a semicolon says which peer it is.
+//! Prints the median nanoseconds of a call of each side, and the median of their ratios. Before a task is timed, both
+//! sides must give the same answer and leave the same bytes. No time is demanded here. TASK restricts it to the tasks
+//! whose name has that text. What stands behind a semicolon says which peer it is.
 //!
 //! Run it in this folder (`cargo run --release`): its settings free the peers of the checks of overflow that the other
 //! crates of the workspace have. `--features run` is for an archive that has scancheck_run; without it the peers of the
@@ -53,9 +53,9 @@ impl Bench {
     }
 
     fn print(&self, task: &str, times: Times) {
-        let Times { proved, peer, repeats } = times;
+        let Times { peer, proved, repeats } = times;
         let [proved, ratio] = match proved {
-            Some(proved) => [format!("{proved:.0}"), format!("{:.2}", proved / peer)],
+            Some((proved, ratio)) => [format!("{proved:.0}"), format!("{ratio:.2}")],
             None => ["-".to_string(), "-".to_string()],
         };
         println!("{task:<60} {proved:>11} {peer:>11.0} {ratio:>7} {repeats:>9}");

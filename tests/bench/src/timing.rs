@@ -5,10 +5,12 @@ use std::time::Instant;
 /// About how long one sample takes, in nanoseconds. A call shorter than this is repeated within the sample.
 const SAMPLE: f64 = 50_000.0;
 
+/// Medians, in nanoseconds for each call.
 pub struct Times {
-    /// None: not measured.
-    pub proved: Option<f64>,
     pub peer: f64,
+    /// The proved side, and the median of the ratios of a sample to the one taken just after it: what else the machine
+    /// does at that moment slows both. None: not measured.
+    pub proved: Option<(f64, f64)>,
     /// Calls of each side.
     pub repeats: usize,
 }
@@ -23,9 +25,10 @@ pub fn compare(samples: usize, mut proved: impl FnMut(), mut peer: impl FnMut())
         proved_times.push(sample(proved_batch, &mut proved));
         peer_times.push(sample(peer_batch, &mut peer));
     }
+    let ratios = proved_times.iter().zip(&peer_times).map(|(proved, peer)| proved / peer).collect();
     Times {
-        proved: Some(median(proved_times)),
         peer: median(peer_times),
+        proved: Some((median(proved_times), median(ratios))),
         repeats: samples * proved_batch.min(peer_batch),
     }
 }
@@ -34,7 +37,7 @@ pub fn compare(samples: usize, mut proved: impl FnMut(), mut peer: impl FnMut())
 pub fn alone(samples: usize, mut peer: impl FnMut()) -> Times {
     let batch = batch(&mut peer);
     let times = (0..samples).map(|_| sample(batch, &mut peer)).collect();
-    Times { proved: None, peer: median(times), repeats: samples * batch }
+    Times { peer: median(times), proved: None, repeats: samples * batch }
 }
 
 /// How many calls make up a sample.
