@@ -71,6 +71,19 @@ int main(void) {
     expect("list too short", scancheck_judge(false, m1, sizeof m1, trace, sizeof trace, 4, work, 8, list, 5), 10, 6, 0);
     expect("bad loop start", scancheck_judge(false, m1, sizeof m1, trace, sizeof trace, 12, work, 8, list, 6), 9, 12, 0);
 
+    static uint8_t run[20481];
+    memset(run, 7, sizeof run);
+    expect("bench run", scancheck_run(table, sizeof table, inputs, sizeof inputs, run, sizeof run), 0, 12, 4);
+    expect_bytes("bench trace", run, trace, sizeof trace);
+    expect_bytes("zero behind it", run + 60, "\0\0\0\0", 4);
+    expect_bytes("zero at the end", run + 20480, "", 1);
+    const uint8_t other[] = {3, 1, 0, 1, 1};
+    expect("not closed", scancheck_run(table, sizeof table, other, sizeof other, run, sizeof run), 8, 3, 0);
+    expect_bytes("all zero", run, run + 60, 60);
+    run[0] = 7;
+    expect("no room to run", scancheck_run(table, sizeof table, inputs, sizeof inputs, run, 20479), 10, 20480, 0);
+    expect_bytes("untouched", run, "\x07", 1);
+
     const uint8_t sheet[] = {2, 1, 'a', 2, 'x', 'y', 1, 'b', 0};
     expect("a", scancheck_find(sheet, sizeof sheet, (const uint8_t *)"a", 1), 0, 4, 6);
     expect("b", scancheck_find(sheet, sizeof sheet, (const uint8_t *)"b", 1), 0, 9, 9);

@@ -35,7 +35,6 @@ extern "C" {
         list: *mut u8,
         list_length: usize,
     ) -> Told;
-    #[cfg(feature = "run")]
     fn scancheck_run(
         table: *const u8,
         table_length: usize,
@@ -71,15 +70,6 @@ pub fn judge(translated: bool, code: &[u8], trace: &[u8], start: usize, work: &m
     }
 }
 
-/// Whether the archive has scancheck_run.
-pub const HAS_RUN: bool = cfg!(feature = "run");
-
-#[cfg(not(feature = "run"))]
-pub fn run(_table: &[u8], _inputs: &[u8], _trace: &mut [u8]) -> Told {
-    unreachable!("the archive has no scancheck_run")
-}
-
-#[cfg(feature = "run")]
 pub fn run(table: &[u8], inputs: &[u8], trace: &mut [u8]) -> Told {
     let room = trace.len();
     unsafe { scancheck_run(table.as_ptr(), table.len(), inputs.as_ptr(), inputs.len(), trace.as_mut_ptr(), room) }

@@ -6,9 +6,8 @@
 //! sides must give the same answer and leave the same bytes. No time is demanded here. TASK restricts it to the tasks
 //! whose name has that text. What stands behind a semicolon says which peer it is.
 //!
-//! Run it in this folder (`cargo run --release`): its settings free the peers of the checks of overflow that the other
-//! crates of the workspace have. `--features run` is for an archive that has scancheck_run; without it the peers of the
-//! run are timed alone.
+//! The workspace's settings free this crate of the checks of overflow that the other crates have: a peer written for
+//! speed has none.
 
 #[cfg(test)]
 mod agreement;
@@ -35,9 +34,6 @@ fn main() {
     let mut words = std::env::args().skip(1);
     let samples = words.next().map_or(1001, |word| word.parse().expect("SAMPLES is a number"));
     let bench = Bench { samples, wanted: words.next().unwrap_or_default() };
-    if cfg!(debug_assertions) {
-        println!("the peers were built with checks that slow them: run this in its own folder");
-    }
     println!("{:<60} {:>11} {:>11} {:>7} {:>9}", "task", "proved ns", "peer ns", "ratio", "repeats");
     let mixed = cases::mixed_judging();
     bench.judge("judge, 4,096 positions, 64 nodes", &mixed);
@@ -53,12 +49,8 @@ impl Bench {
     }
 
     fn print(&self, task: &str, times: Times) {
-        let Times { peer, proved, repeats } = times;
-        let [proved, ratio] = match proved {
-            Some((proved, ratio)) => [format!("{proved:.0}"), format!("{ratio:.2}")],
-            None => ["-".to_string(), "-".to_string()],
-        };
-        println!("{task:<60} {proved:>11} {peer:>11.0} {ratio:>7} {repeats:>9}");
+        let Times { proved, peer, ratio, repeats } = times;
+        println!("{task:<60} {proved:>11.0} {peer:>11.0} {ratio:>7.2} {repeats:>9}");
     }
 
     /// Against a peer with rows of words, and against a plain one with a byte for each position.
@@ -133,10 +125,8 @@ impl Bench {
         let answer = runner.run::<KEPT>(table, inputs, &mut peer_trace);
         assert_eq!(answer, Ok((*positions, *loop_start)), "{task}");
         assert_eq!(&peer_trace, trace, "{task}");
-        if calls::HAS_RUN {
-            same(task, calls::run(table, inputs, &mut proved_trace), answer);
-            assert_eq!(&proved_trace, trace, "{task}");
-        }
+        same(task, calls::run(table, inputs, &mut proved_trace), answer);
+        assert_eq!(&proved_trace, trace, "{task}");
 
         let proved = || {
             let [table, inputs] = black_box([table, inputs]);
@@ -147,12 +137,7 @@ impl Bench {
             let answer = runner.run::<KEPT>(table, inputs, &mut peer_trace);
             black_box((answer, &mut peer_trace)).0.unwrap();
         };
-        let times = if calls::HAS_RUN {
-            timing::compare(self.samples, proved, peer)
-        } else {
-            timing::alone(self.samples, peer)
-        };
-        self.print(task, times);
+        self.print(task, timing::compare(self.samples, proved, peer));
     }
 
     fn translate(&self, task: &str, code: &[u8]) {

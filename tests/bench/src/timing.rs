@@ -7,10 +7,11 @@ const SAMPLE: f64 = 50_000.0;
 
 /// Medians, in nanoseconds for each call.
 pub struct Times {
+    pub proved: f64,
     pub peer: f64,
-    /// The proved side, and the median of the ratios of a sample to the one taken just after it: what else the machine
-    /// does at that moment slows both. None: not measured.
-    pub proved: Option<(f64, f64)>,
+    /// The median of the ratios of a sample to the one taken just after it: what else the machine does at that moment
+    /// slows both.
+    pub ratio: f64,
     /// Calls of each side.
     pub repeats: usize,
 }
@@ -27,17 +28,11 @@ pub fn compare(samples: usize, mut proved: impl FnMut(), mut peer: impl FnMut())
     }
     let ratios = proved_times.iter().zip(&peer_times).map(|(proved, peer)| proved / peer).collect();
     Times {
+        proved: median(proved_times),
         peer: median(peer_times),
-        proved: Some((median(proved_times), median(ratios))),
+        ratio: median(ratios),
         repeats: samples * proved_batch.min(peer_batch),
     }
-}
-
-/// Nanoseconds for each call of the peer, where there is nothing to compare it with.
-pub fn alone(samples: usize, mut peer: impl FnMut()) -> Times {
-    let batch = batch(&mut peer);
-    let times = (0..samples).map(|_| sample(batch, &mut peer)).collect();
-    Times { peer: median(times), proved: None, repeats: samples * batch }
 }
 
 /// How many calls make up a sample.
