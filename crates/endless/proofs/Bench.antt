@@ -22,15 +22,14 @@ use Rattle.controller.specs.Same.{sameValues, sameRecord, sameRecords, sameStat
 use Rattle.scan.specs.Guards.{testHolds, guardHolds, nextOf, atomOf}
 use Rattle.scan.specs.Scanning.{taken, readOf, written, writeOf}
 use Rattle.scan.specs.Position.{packed, atomByte, atomBytes, stateBytes}
-use Rattle.run.specs.Moves.{active, stepOf, actionMove, moveOf}
+use Rattle.run.specs.Moves.{active, stepOf, tooLong, actionMove, moveOf}
 use Rattle.run.specs.Running.{reached, toReturn, toEnd, closing, ranOf}
 use Rattle.run.specs.Trace.{path, traceBytes, numbersIn, runOf}
 use Rattle.run.specs.declared.Ran.the-variants.{Closed}
-
 use Rattle.endless.specs.Bench.{benchTable, benchInputs}
 
 pub bench-run : (runOf 20480 benchTable benchInputs ≡ Closed 12 4) × (traceBytes (numbersIn benchTable) (numbersIn benchInputs) 12 ≡ benchBytes)
-unfolding sourceOf testOf afterStates afterProcesses processPlace statePlace rowFrom actionFrom rowOf readingOf up goes timed entering valueAt statesOf stateAt recordAt withRecord start raised allRaised updated elapsed waited restarted following actOf actionOf truth sameValues sameRecord sameRecords sameState testHolds guardHolds nextOf atomOf taken readOf written writeOf packed atomByte atomBytes stateBytes active stepOf actionMove moveOf reached toReturn toEnd closing ranOf path runOf within totalOk isInternal isVariable testAOk opOk xOk yOk usesNexts guardOk usesElse nextOk allowed atSources afterSource atTests afterTest afterAction numberAt codeAt check countsFrom stateOk testsFrom tableGrammar inputsGrammar
+unfolding sourceOf testOf afterStates afterProcesses processPlace statePlace rowFrom actionFrom rowOf readingOf up goes timed entering valueAt statesOf stateAt recordAt withRecord start raised allRaised updated elapsed waited restarted following actOf actionOf truth sameValues sameRecord sameRecords sameState testHolds guardHolds nextOf atomOf taken readOf written writeOf packed atomByte atomBytes stateBytes active stepOf tooLong actionMove moveOf reached toReturn toEnd closing ranOf path runOf within totalOk isInternal isVariable testAOk opOk xOk yOk usesNexts guardOk usesElse nextOk allowed atSources afterSource atTests afterTest afterAction numberAt codeAt check countsFrom stateOk testsFrom tableGrammar inputsGrammar
 bench-run = (refl, refl)
 
 pub bench-lasso : traceOf (traceBytes (numbersIn benchTable) (numbersIn benchInputs) 12) 4 ≡ bench

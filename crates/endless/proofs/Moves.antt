@@ -8,7 +8,7 @@ use mathlib.Core.List.{List}
 use lib.Dec.{eqb, ltb}
 use borrow.Author.Tests.{eqb-true, eqb-false, ltb-true}
 use Rattle.coding.specs.declared.Cause.{Cause}
-use Rattle.coding.specs.declared.Cause.the-variants.{NoRule as NoRuleFound, LongTurn}
+use Rattle.coding.specs.declared.Cause.the-variants.{NoRule as NoRuleFound}
 use Rattle.ranges.specs.Values.{pick}
 use Rattle.requirement.specs.declared.Phase.the-variants.{Exe}
 use Rattle.lookups.specs.Places.{processesOf}
@@ -21,8 +21,9 @@ use Rattle.controller.specs.declared.Acted.{Acted}
 use Rattle.controller.specs.declared.Outcome.{Outcome}
 use Rattle.controller.specs.declared.Outcome.the-variants.{Stays, Passes, NoRule}
 use Rattle.scan.specs.Scanning.{readOf, writeOf}
-use Rattle.run.specs.Limits.{longestTurn}
-use Rattle.run.specs.Moves.{to, stops, stepOf, active, afterAction, actionMove, afterRead, afterWrite, moveOf}
+use Rattle.run.specs.Moves.{to, stops, stepOf, active, afterAction, tooLong, unruled, before, unless, actionMove, afterRead, afterWrite, moveOf}
+use Rattle.run.specs.declared.Going.{Going}
+use Rattle.run.specs.declared.Going.the-variants.{On, Stopped}
 use Rattle.run.specs.declared.Machine.{Machine}
 use Rattle.run.specs.declared.Moved.{Moved}
 
@@ -84,20 +85,18 @@ module _ (P : Moved → Moved → Type 0) (T I : List ℕ) (d : ℕ) (m : Machin
     (stay : 0 < m .state .counter → (c : Controller) → 0 < c .counter → P (to (afterStay m c)) (to (afterStay (withScan m s) c)))
     (pass : 0 < m .state .counter → (c : Controller) → 0 < c .counter → P (to (afterPass m c)) (to (afterPass (withScan m s) c)))
     (stop : (cause : Cause) → P (stops cause m) (stops cause (withScan m s))) where
-  by-outcome : 0 < m .state .counter → (o : Outcome) (c : Controller) → 0 < c .counter → P (afterAction m o c) (afterAction (withScan m s) o c)
-  by-outcome h Stays c k = stay h c k
-  by-outcome h Passes c k = pass h c k
-  by-outcome h NoRule c k = stop NoRuleFound
+  by-looks : 0 < m .state .counter → (long : Going) (o : Outcome) (c : Controller) → 0 < c .counter →
+      P (unless (before long (unruled o)) m (afterAction m o c)) (unless (before long (unruled o)) (withScan m s) (afterAction (withScan m s) o c))
+  by-looks h (Stopped cause) o c k = stop cause
+  by-looks h On Stays c k = stay h c k
+  by-looks h On Passes c k = pass h c k
+  by-looks h On NoRule c k = stop NoRuleFound
 
   by-action : 0 < m .state .counter → P (actionMove T m) (actionMove T (withScan m s))
   unfolding actionMove
   by-action h =
       let a = stepOf T (m .state .counter) (m .state) in
-      both-chosen (ltb (m .used) longestTurn) (by-outcome h (a .outcome) (a .state) (step-some T (m .state .counter) (m .state) h .counter)) (stop LongTurn)
-    where
-      both-chosen : (b : Bool) {x y u v : Moved} → P x u → P y v → P (pick b x y) (pick b u v)
-      both-chosen true p q = p
-      both-chosen false p q = q
+      by-looks h (tooLong (m .used)) (a .outcome) (a .state) (step-some T (m .state .counter) (m .state) h .counter)
 
   pub by-move : P (moveOf T I d m) (moveOf T I d (withScan m s))
   unfolding moveOf

@@ -52,16 +52,37 @@ stepOf T i c =
     (actOf i Skip 0 c)
 
 -- "Each process passes its turn exactly once a scan": an action that keeps the turn counts one more, and one that passes it begins the next.
-abbrev pub afterAction : Machine → Outcome → Controller → Moved
-afterAction m Stays c = to (record { phase = Exe; state = c; used = m .used + 1; scan = m .scan })
-afterAction m Passes c = to (record { phase = Exe; state = c; used = 0; scan = m .scan })
-afterAction m NoRule c = stops NoRuleFound m
+abbrev pub usedAfter : Outcome → ℕ → ℕ
+usedAfter Stays used = used + 1
+usedAfter Passes used = 0
+usedAfter NoRule used = used
 
--- "a 65th is refusal 6, looked for before 5"
+abbrev pub afterAction : Machine → Outcome → Controller → Machine
+afterAction m outcome c = record { phase = Exe; state = c; used = usedAfter outcome (m .used); scan = m .scan }
+
+-- "after at most 64 actions, skip and end counted; a 65th is refusal 6"
+unfoldable pub tooLong : ℕ → Going
+tooLong used = pick (ltb used longestTurn) On (Stopped LongTurn)
+
+-- "no rule for the action"
+abbrev pub unruled : Outcome → Going
+unruled Stays = On
+unruled Passes = On
+unruled NoRule = Stopped NoRuleFound
+
+-- Of two looks the first that stops the run: "6, looked for before 5".
+abbrev pub before : Going → Going → Going
+before (Stopped cause) later = Stopped cause
+before On later = later
+
+abbrev pub unless : Going → Machine → Machine → Moved
+unless (Stopped cause) m next = stops cause m
+unless On m next = to next
+
 unfoldable pub actionMove : List ℕ → Machine → Moved
 actionMove T m =
     let a = stepOf T (m .state .counter) (m .state) in
-    pick (ltb (m .used) longestTurn) (afterAction m (a .outcome) (a .state)) (stops LongTurn m)
+    unless (before (tooLong (m .used)) (unruled (a .outcome))) m (afterAction m (a .outcome) (a .state))
 
 -- "just after a read is Input (0)"; "each just after a write, is Output (2)"; "all others are Exe (1)"
 abbrev pub afterRead : Machine → Controller → Machine

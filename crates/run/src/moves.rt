@@ -12,7 +12,7 @@ use requirement::Phase;
 ghost use mathlib.Core.Path.{_≡_};
 ghost use Prim.Native.Nat.{_+_, _<_};
 ghost use Rattle.run.specs.Index.{Indexed};
-ghost use Rattle.run.specs.Moves.{to, stops, active, stepOf, afterAction, actionMove, afterRead, afterWrite};
+ghost use Rattle.run.specs.Moves.{to, stops, active, stepOf, usedAfter, afterAction, tooLong, unruled, before, actionMove, afterRead, afterWrite};
 ghost use Rattle.run.specs.Running.{recordedMove};
 
 // The most actions of a turn.
@@ -71,46 +71,81 @@ fn step(table: &[u16], places: &[usize], i: u16, c: Controller) -> Acted
     c.act(i, controller::action_of(row.op, row.x, row.y), next)
 }
 
-// The machine after an action, or that there is no rule for it.
-fn after_action(m: Machine, outcome: Outcome, c: Controller) -> Moved
+// How many actions of the turn are done after one more: none of the next turn, where it passes.
+fn used_after(outcome: Outcome, used: u16) -> u16
+    requires { ⌜ used < 65535 ⌝ }
+    ensures { λ r. ⌜ r ≡ usedAfter outcome used ⌝ }
+{
+    match outcome {
+        Outcome::Stays => used + 1,
+        Outcome::Passes => 0,
+        Outcome::NoRule => used,
+    }
+}
+
+// The machine after an action.
+fn after_action(m: Machine, outcome: Outcome, c: Controller) -> Machine
     requires { ⌜ m .used < 65535 ⌝ }
     ensures { λ r. ⌜ r ≡ afterAction m outcome c ⌝ }
 {
     let phase = Phase::Exe;
     let scan = m.scan;
-    let used = m.used;
-    match outcome {
-        Outcome::Stays => to(Machine {
-            phase: phase,
-            state: c,
-            used: used + 1,
-            scan: scan,
-        }),
-        Outcome::Passes => to(Machine {
-            phase: phase,
-            state: c,
-            used: 0,
-            scan: scan,
-        }),
-        Outcome::NoRule => stops(Cause::NoRule, m),
+    let used = used_after(outcome, m.used);
+    Machine {
+        phase: phase,
+        state: c,
+        used: used,
+        scan: scan,
     }
 }
 
-// An action of the process whose turn it is, if the turn is not too long already.
+// Whether a turn of so many actions is at its end.
+fn too_long(used: u16) -> Going
+    ensures { λ r. ⌜ r ≡ tooLong used ⌝ }
+{
+    if used < LONGEST_TURN {
+        return Going::On;
+    }
+    Going::Stopped(Cause::LongTurn)
+}
+
+// Whether there is no rule for an action.
+fn unruled(outcome: Outcome) -> Going
+    ensures { λ r. ⌜ r ≡ unruled outcome ⌝ }
+{
+    match outcome {
+        Outcome::NoRule => Going::Stopped(Cause::NoRule),
+        _ => Going::On,
+    }
+}
+
+// Of two looks the first that stops the run.
+fn before(first: Going, later: Going) -> Going
+    ensures { λ r. ⌜ r ≡ before first later ⌝ }
+{
+    match first {
+        Going::Stopped(cause) => Going::Stopped(cause),
+        Going::On => later,
+    }
+}
+
+// An action of the process whose turn it is. A turn that is too long is looked for before an action that has no rule.
 fn action_move(table: &[u16], places: &[usize], m: Machine) -> Moved
     requires { ⌜ Indexed (now table) (now places) ⌝ }
     ensures { λ r. ⌜ r ≡ actionMove (now (table .entry)) m ⌝ }
 {
-    let used = m.used;
-    if LONGEST_TURN <= used {
-        return stops(Cause::LongTurn, m);
-    }
     let c = m.state;
     let i = c.counter;
+    let used = m.used;
     let acted = step(table, places, i, c);
     let outcome = acted.outcome;
     let state = acted.state;
-    after_action(m, outcome, state)
+    let long = too_long(used);
+    let missing = unruled(outcome);
+    match before(long, missing) {
+        Going::Stopped(cause) => stops(cause, m),
+        Going::On => to(after_action(m, outcome, state)),
+    }
 }
 
 fn after_read(m: Machine, c: Controller) -> Machine

@@ -1,3 +1,4 @@
+use native.Mathlib.Omega.{arith}
 use mathlib.Core.Path.{refl, _∙_}
 use borrow.Author.Tests.{lt-ltb, le-ltb, eq-eqb, ne-eqb}
 use Rattle.run.specs.Moves.{moveOf}
@@ -41,14 +42,14 @@ to-requires-2 c κs = search needs
 
 returns-2 : tie.Need-returns-2
 unfolding moveOf
-returns-2 c = rw (ne-eqb _ _ (c .before .before .before .before .before .if1 .left), ← c .before .before .before .before .processes .ensures, lt-ltb _ _ (c .before .before .before .if2 .taken), c .to2 .ensures, c .before .after-write .ensures, c .before .before .write .ensures) refl
+returns-2 c = rw (ne-eqb _ _ (c .before .before .before .before .before .if1 .left), ← c .before .before .before .before .processes .ensures, lt-ltb (c .before .before .before .before .processes .result) (c .before .before .before .before .before .before .before .before .before .before .args .m .state .counter) (omega (arith, c .before .before .before .if2 .taken)), c .to2 .ensures, c .before .after-write .ensures, c .before .before .write .ensures) refl
 
 action-move-requires : tie.Need-action-move-requires
 action-move-requires c κs = search needs
 
 returns-3 : tie.Need-returns-3
 unfolding moveOf
-returns-3 c = rw (ne-eqb _ _ (c .before .before .before .if1 .left), ← c .before .before .processes .ensures, le-ltb _ _ (c .before .if2 .left)) (c .action-move .ensures)
+returns-3 c = rw (ne-eqb _ _ (c .before .before .before .if1 .left), ← c .before .before .processes .ensures, le-ltb (c .before .before .processes .result) (c .before .before .before .before .before .before .before .before .args .m .state .counter) (omega (arith, c .before .if2 .left))) (c .action-move .ensures)
 
 pub make-move-spec : {M : Type 1} → statement M
 make-move-spec =
