@@ -62,9 +62,10 @@ scancheck_told scancheck_translate(const uint8_t *code, size_t code_length, uint
 
 /*
  * A table run over recorded inputs, by the published rules, into a lasso trace: 5 bytes a position from trace[0] on. first: how many positions; second: the loop
- * start. Checks in this order: trace under 20,480 bytes (10), the table (1, 2), the inputs (1, 2), then the scans: 6, 5 and 7 at each action, read or write, in
- * this order, their place the scan, from 1; at the end 8. The bytes behind the last position are zero, whatever is lent. 5 to 8 leave all of trace zero; 1, 2 and
- * 10 leave it as it was. The trace of a run that closes is always accepted by scancheck_judge.
+ * start. Checks in this order: trace under 20,480 bytes (10, its place 20,480), the table (1, 2, the place in its bytes), the inputs (1, 2, the place in theirs;
+ * which of the two it was is not told), then the scans: 6, 5 and 7 at each action, read or write, in this order, their place the scan, from 1; at the end 8, its
+ * place the last scan. The bytes behind the last position are zero, whatever is lent. 5 to 8 leave all of trace zero; 1, 2 and 10 leave it as it was. The first
+ * 5 * first bytes of the trace of a run that closes, with second as the loop start, are never refused by 9 in scancheck_judge; the whole buffer is another trace.
  */
 scancheck_told scancheck_run(const uint8_t *table, size_t table_length, const uint8_t *inputs, size_t inputs_length, uint8_t *trace, size_t trace_length);
 

@@ -9,6 +9,7 @@ use Rattle.controller.specs.declared.Action.the-variants.{Updates, Tout,
 
 -- "An update is one of three kinds: op 1, x takes the number y; 2, x takes variable y; 3, x takes its own value plus y .."
 -- "Op 4 tout (x is the bound ..), 5 reset, 6 startP and 7 stopP (x another process), 8 start, 9 set (x an active state), 10 next .., 11 stop, 12 err."
+-- Any other number, which no table that is read has, is taken for 12.
 unfoldable pub actionOf : ℕ → ℕ → ℕ → Action
 actionOf op x y =
     pick (eqb op 1) (Updates x (Constant y))

@@ -1,4 +1,4 @@
--- The rules of the actions, each under its line of paper 003 as document 01 settles it. A rule is over values: the variables, the record of the process that acts (p_i) and
+-- The rules of the actions, each under its line of paper 003 as document 01 settles it; the counter goes on as in paper 000, to n + 1. A rule is over values: the variables, the record of the process that acts (p_i) and
 -- the record of the one other process that the action names (p_k). What a rule does not mention stays as it is.
 -- Assumes nothing: these are definitions.
 use Prim.Native.Nat.{ℕ, _+_, _%_}

@@ -2,7 +2,6 @@
 -- action counter and timer, and the "process counter". It is the struct's own record; its lists may have any length here.
 -- Assumes nothing: these are definitions.
 use Prim.Native.Nat.{ℕ, _+_, _-_}
-use mathlib.Core.Bool.{Bool}
 use mathlib.Core.List.{List, _∷_, map}
 use lib.ListN.{getD, set, replicate}
 use lib.Dec.{ltb, eqb}

@@ -7,7 +7,7 @@ use lib.Dec.{ltb, eqb}
 use Rattle.ranges.specs.Values.{pick}
 use Rattle.controller.specs.State.{none}
 
--- "A test of an unset variable is false".
+-- "A test of an unset variable is false". A kind above 2, which no table that is read has, is taken for 1.
 unfoldable pub truth : ℕ → ℕ → ℕ → ℕ → Bool
 truth kind b value state =
     pick (eqb kind 2) (eqb state b)

@@ -7,7 +7,7 @@ use crate::Process;
 use crate::Update;
 ghost use mathlib.Core.Path.{_≡_};
 ghost use Rattle.controller.specs.State.{up, goes, timed, entering, stopped, valueAt, raised};
-ghost use Rattle.controller.specs.Rules.{stays, passes, noRule, newValue, updated, elapsed, waited, restarted, following, ruleOf, namedBy, counterAfter};
+ghost use Rattle.controller.specs.Rules.{stays, passes, noRule, newValue, updated, elapsed, waited, restarted, ruleOf, namedBy, counterAfter};
 
 // One more, staying at the highest number of 16 bits.
 fn up(n: u16) -> u16

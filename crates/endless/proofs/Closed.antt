@@ -1,4 +1,4 @@
--- What an accepted run is: its trace is a well-formed lasso, and that lasso's endless run is the run of the rules when the inputs repeat from scan b on.
+-- What an accepted run is: its trace is a well-formed lasso, and that lasso's endless run is the run of the rules when the inputs after scan b repeat for ever.
 -- Assumes nothing.
 use Prim.Native.Nat.{ℕ, _<_}
 use mathlib.Core.Path.{_≡_}

@@ -38,7 +38,7 @@ pub record Ended (T I : List ℕ) (n start : ℕ) : Type 0 where
 not-halted : {cause : Cause} {s p n start : ℕ} → Halted cause s p ≡ Closed n start → ⊥
 not-halted e = let z : _≡_ {A = ℕ} 0 1 = cc in omega arith
 
-not-refused : {cause : Cause} {p n start : ℕ} → Refused cause p ≡ Closed n start → ⊥
+pub not-refused : {cause : Cause} {p n start : ℕ} → Refused cause p ≡ Closed n start → ⊥
 not-refused e = let z : _≡_ {A = ℕ} 0 1 = cc in omega arith
 
 -- ---- the scans

@@ -1,4 +1,4 @@
--- The endless run of the rules, when the inputs repeat from scan b on: what the lasso of a closed run stands for.
+-- The endless run of the rules, when the inputs after scan b repeat for ever: what the lasso of a closed run stands for.
 -- Assumes nothing: these are definitions.
 use Prim.Native.Nat.{ℕ, zero, suc, _+_, _-_, _%_}
 use mathlib.Core.List.{List}

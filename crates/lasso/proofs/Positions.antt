@@ -1,20 +1,29 @@
 -- What stands at a position of a trace, on each way through the code that looks there.
 -- Assumes nothing.
-use Prim.Native.Nat.{ℕ, _+_, _*_, _≤_}
+use Prim.Native.Nat.{ℕ, suc, _+_, _<_}
 use native.Mathlib.Omega.{arith}
 use native.Mathlib.Numerals.{add-one}
-use mathlib.Core.Path.{_≡_, sym}
+use mathlib.Core.Path.{_≡_, refl}
+use mathlib.Core.Bool.{Bool, true, false, cond}
 use mathlib.Core.List.{List}
-use lib.ListN.{length, List·getD-eq-default}
-use lib.Dec.{eqb}
-use borrow.Author.Tests.{eq-eqb, ne-eqb}
+use lib.Dec.{ltb, eqb}
+use borrow.Author.Tests.{ltb-true, lt-ltb, eq-eqb, ne-eqb}
 use Rattle.bits.specs.Bits.{digit, countB}
-use Rattle.lasso.specs.Bytes.{phaseByte, markB}
+use Rattle.bits.specs.Rows.{afterOf}
+use Rattle.lasso.specs.Bytes.{positions, phaseByte, markB}
+
+-- the position after one inside a lasso is inside too
+pub after-inside : {n start : ℕ} (i : ℕ) → start < n → afterOf n start i < n
+after-inside {n} {start} i h = go (ltb (suc i) n) refl
+  where
+    go : (b : Bool) → ltb (suc i) n ≡ b → cond b (suc i) start < n
+    go true e = ltb-true (suc i) n e
+    go false e = h
 
 module _ (s : List ℕ) (p : ℕ) where
-  -- past the end of the bytes
-  pub no-phase : length s ≤ p * 5 → 0 ≡ phaseByte s p
-  no-phase h = sym (List·getD-eq-default s 0 h)
+  -- what is read of the position after p is what stands at p + 1, but for the last position
+  pub next-phase : (start j y : ℕ) → j ≡ afterOf (positions s) start p → y ≡ phaseByte s j → p + 1 < positions s → y ≡ phaseByte s (p + 1)
+  next-phase start j y ej ey h = rw (ey, ej, ← add-one p, lt-ltb _ _ h)
 
   -- one position more in the count of Inputs
   counted : countB (markB s 0) (p + 1) ≡ countB (markB s 0) p + digit (eqb (phaseByte s p) 0)

@@ -6,7 +6,7 @@ use native.Mathlib.Omega.{arith}
 use native.Mathlib.Nat.{eq-or-lt-of-le, le-refl}
 use mathlib.Core.Path.{_≡_, refl, sym, _∙_}
 use mathlib.Core.Logic.{_⊎_, inl, inr, ⊎-elim}
-use mathlib.Core.Bool.{Bool, true, false, cond, false≢true}
+use mathlib.Core.Bool.{Bool, true, false, false≢true}
 use mathlib.Core.List.{List}
 use lib.ListN.{length}
 use lib.Dec.{ltb, eqb}
@@ -21,6 +21,7 @@ use Rattle.meaning.specs.Trace.{WellFormed, Follows}
 use Rattle.bits.specs.Rows.{afterOf}
 use Rattle.lasso.specs.Bytes.{positions, phaseFrom, phaseByte, traceOf}
 use Rattle.lasso.specs.Checking.{lengthOk, mayFollow, stepsFrom, outputFrom, checkBy, checkTrace}
+use Rattle.lasso.proofs.Positions.{after-inside}
 use Rattle.lasso.proofs.Steps.{with-output, without-output}
 
 -- Position i has a phase, and what follows it has one that may follow.
@@ -178,13 +179,6 @@ length-is n =
     (λ g e. (omega (arith, eqb-false n 0 f), ltb-false 20480 n g, eqb-true (n % 5) 0 e)))
 
 -- ---- the three theorems
-after-inside : {n start : ℕ} (i : ℕ) → start < n → afterOf n start i < n
-after-inside {n} {start} i h = go (ltb (suc i) n) refl
-  where
-    go : (b : Bool) → ltb (suc i) n ≡ b → cond b (suc i) start < n
-    go true e = ltb-true (suc i) n e
-    go false e = h
-
 module _ (s : List ℕ) (start : ℕ) where
   lasso : lengthOk (length s) ≡ true → start < positions s → outputFrom s (positions s - start) start ≡ true →
       ((i : ℕ) → 0 ≤ i → i < positions s → Fine s start i) → Lasso s start (positions s)

@@ -19,18 +19,12 @@ pub fn phase_number(phase: Phase) -> u8
     }
 }
 
-// The phase byte of a position; 0 past the end.
-pub fn phase_byte(trace: &[u8], p: usize) -> u8
+// The phase byte of a position.
+fn phase_in(trace: &[u8], p: usize) -> u8
+    requires { ⌜ p < positions (now trace) ⌝ }
     ensures { λ r. ⌜ r ≡ phaseByte (now (trace .entry)) p ⌝ }
 {
-    if trace.len() / 5 < p {
-        return 0;
-    }
-    let at = p * 5;
-    if at < trace.len() {
-        return trace[at];
-    }
-    0
+    trace[p * 5]
 }
 
 fn length_ok(n: usize) -> bool
@@ -76,14 +70,16 @@ fn after(n: usize, start: usize, p: usize) -> usize
 
 // The first position that is no phase or is followed by what may not follow it; else `fine`.
 fn check_steps(trace: &[u8], start: usize, fine: Answer) -> Answer
+    requires { ⌜ start < positions (now trace) ⌝ }
     ensures { λ r. ⌜ r ≡ stepsFrom mayFollow (now (trace .entry)) start (positions (now (trace .entry))) 0 fine ⌝ }
 {
     let n = trace.len() / 5;
     let mut i: usize = 0;
+    let mut here = phase_in(trace, 0);
     while i < n {
-        let here = phase_byte(trace, i);
-        let next = phase_byte(trace, after(n, start, i));
+        let next = phase_in(trace, after(n, start, i));
         if may_follow(here, next) {
+            here = next;
             i += 1;
         } else {
             return Answer::Refused(Cause::BadTrace, i);
@@ -99,7 +95,7 @@ fn output_in_loop(trace: &[u8], start: usize) -> bool
     let n = trace.len() / 5;
     let mut i = start;
     while i < n {
-        if phase_byte(trace, i) == 2 {
+        if phase_in(trace, i) == 2 {
             return true;
         }
         i += 1;
@@ -133,7 +129,7 @@ pub fn count_inputs(trace: &[u8]) -> usize
     let mut count: usize = 0;
     let mut i: usize = 0;
     while i < n {
-        if phase_byte(trace, i) == 0 {
+        if phase_in(trace, i) == 0 {
             count += 1;
         }
         i += 1;

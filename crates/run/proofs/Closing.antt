@@ -34,6 +34,16 @@ in-scan T I k from m d r e came cause g small =
     let h : Below T I k (Stopped cause) (r .machine) = rw (← came .0, g) at (below T I k (lastState - from) from m) in
     omega arith
 
+-- ---- the closing, by what the comparison of the two states tells
+module _ (q : ℕ) (back last : Reached) (same : Bool) (told : same ≡ sameState (last .machine .state) (back .machine .state)) where
+  pub alike : same ≡ true → Closed (last .number) (back .number) ≡ closing q back last
+  unfolding closing
+  alike e = rw (← told, e)
+
+  pub differs : same ≡ false → Halted NotClosed q 0 ≡ closing q back last
+  unfolding closing
+  differs e = rw (← told, e)
+
 -- ---- the answer
 -- by what the two parts came to
 abbrev ranBy : List ℕ → Reached → Reached → Ran

@@ -7,14 +7,13 @@ use mathlib.Core.List.{List}
 use lib.Dec.{eqb, ltb}
 use Rattle.coding.specs.declared.Cause.{Cause}
 use Rattle.coding.specs.declared.Cause.the-variants.{NoRule as NoRuleFound, LongTurn}
-use Rattle.ranges.specs.Limits.{errState, mostProcesses}
+use Rattle.ranges.specs.Limits.{errState}
 use Rattle.ranges.specs.Values.{pick}
 use Rattle.requirement.specs.declared.Phase.the-variants.{Input, Exe, Output}
 use Rattle.lookups.specs.Places.{processesOf, actionOf as rowOf}
 use Rattle.controller.specs.State.{stop, bodyEnd, recordAt, start}
 use Rattle.controller.specs.Rules.{actOf}
 use Rattle.controller.specs.Actions.{actionOf}
-use Rattle.controller.specs.declared.Process.{Process}
 use Rattle.controller.specs.declared.Controller.{Controller}
 use Rattle.controller.specs.declared.Outcome.{Outcome}
 use Rattle.controller.specs.declared.Outcome.the-variants.{Stays, Passes, NoRule}

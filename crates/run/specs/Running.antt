@@ -11,13 +11,12 @@ use Rattle.lookups.specs.Places.{scansOf, returnOf}
 use Rattle.controller.specs.Same.{sameState}
 use Rattle.run.specs.Limits.{lastState}
 use Rattle.run.specs.Moves.{begun, moveOf}
-use Rattle.run.specs.declared.Going.{Going}
 use Rattle.run.specs.declared.Going.the-variants.{On, Stopped}
 use Rattle.run.specs.declared.Machine.{Machine}
 use Rattle.run.specs.declared.Moved.{Moved}
 use Rattle.run.specs.declared.Reached.{Reached}
 use Rattle.run.specs.declared.Ran.{Ran}
-use Rattle.run.specs.declared.Ran.the-variants.{Closed, Halted, Refused}
+use Rattle.run.specs.declared.Ran.the-variants.{Closed, Halted}
 
 -- The move of a machine: the inputs of the scan after those that are done.
 abbrev pub recordedMove : List ℕ → List ℕ → Machine → Moved
@@ -51,7 +50,8 @@ toReturn T I = onward T I (returnOf I) (here 0 (begun mostProcesses))
 unfoldable pub toEnd : List ℕ → List ℕ → Reached
 toEnd T I = onward T I (scansOf I) (toReturn T I)
 
--- Whose turn it was, for the two refusals that are of an action; else 0.
+-- Whose turn it was, for the two refusals that are of an action; else 0. Document 01 asks for number and place alone, and `ranTold` tells these; the change request
+-- C-12 asks for the process.
 abbrev pub turnOf : Cause → Machine → ℕ
 turnOf NoRule m = m .state .counter
 turnOf LongTurn m = m .state .counter

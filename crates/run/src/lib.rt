@@ -12,7 +12,7 @@ ghost use Prim.Native.Nat.{_≤_};
 ghost use lib.ListN.{length};
 ghost use Rattle.run.specs.Limits.{traceRoom};
 ghost use Rattle.run.specs.Running.{ranOf};
-ghost use Rattle.run.specs.Trace.{numbersIn, byTable, byInputs, runOf, leftIn};
+ghost use Rattle.run.specs.Trace.{numbersIn, byInputs, runOf, leftIn};
 ghost use Rattle.table.specs.Table.{inputsGrammar};
 ghost use Rattle.coding.specs.Code.{codeAt};
 ghost use lib.ListN.{getD};

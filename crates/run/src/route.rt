@@ -8,18 +8,16 @@ use crate::places;
 use coding::Cause;
 use requirement::Phase;
 ghost use mathlib.Core.Path.{_≡_};
-ghost use mathlib.Core.Bool.{Bool};
 ghost use Prim.Native.Nat.{_+_, _-_, _*_, _<_, _≤_};
 ghost use lib.Dec.{ltb};
-ghost use lib.ListN.{length, replicate};
 ghost use Rattle.coding.specs.Room.{over};
 ghost use Rattle.ranges.specs.Limits.{mostProcesses};
 ghost use Rattle.scan.specs.Position.{stateBytes};
 ghost use Rattle.run.specs.Index.{Indexed};
-ghost use Rattle.run.specs.Limits.{lastState, traceRoom};
+ghost use Rattle.run.specs.Limits.{lastState};
 ghost use Rattle.run.specs.Moves.{begun};
 ghost use Rattle.run.specs.Running.{here, stoppedAt, reached, turnOf, halted, closing, ranOf};
-ghost use Rattle.run.specs.Trace.{path, leftIn};
+ghost use Rattle.run.specs.Trace.{path};
 ghost use Rattle.run.specs.Walking.{Walked, cleared, clearedBy, Small};
 
 // The last state that may arise.

@@ -2,17 +2,24 @@
 -- Assumes nothing.
 use Prim.Native.Nat.{ℕ, suc, _+_, _-_, _<_, _≤_}
 use mathlib.Core.Path.{_≡_, refl}
+use mathlib.Core.Logic.{_⊎_, ⊎-elim}
 use mathlib.Core.List.{List}
 use native.Mathlib.Omega.{arith}
-use lib.ListN.{getD, set}
+use lib.ListN.{length, getD, set}
 use Rattle.lookups.specs.Places.{sourceOf, readingOf}
 use Rattle.controller.specs.State.{valueAt}
 use Rattle.controller.specs.declared.Controller.{Controller}
+use Rattle.controller.proofs.Arrays.{set-outside}
 use Rattle.scan.specs.Scanning.{taken, written}
 
 -- A state with its variables changed, and nothing else.
 abbrev pub with : (List ℕ → List ℕ) → Controller → Controller
 with f c = record { variables = f (c .variables); processes = c .processes; counter = c .counter }
+
+-- A value stored at a place of the variables where there is such a place, P, and nothing done where there is none, Q.
+pub stored : {P Q : Type 0} (s t : Controller) (at x : ℕ) → length (s .variables) ≡ 32 → (Q → 32 ≤ at) →
+    (P × (t ≡ with (λ v. set v at x) s)) ⊎ (Q × (t ≡ s)) → t ≡ with (λ v. set v at x) s
+stored s t at x n out = ⊎-elim (λ w. w .1) (λ w. rw (set-outside (s .variables) at x 32 n (out (w .0))) (w .1))
 
 -- For any change of so many places from a place on, one place after the other.
 module _ (all : ℕ → ℕ → List ℕ → List ℕ) (one : ℕ → List ℕ → List ℕ)

@@ -11,7 +11,7 @@ use Rattle.lasso.proofs.count_inputs.Statement.{statement}
 use Rattle.lasso.proofs.count_inputs.Tie as tie
 use Rattle.lasso.proofs.count_inputs.Reads as reads
 use Rattle.lasso.proofs.count_inputs.Lts as lts
-use Rattle.lasso.proofs.phase_byte.Reads as phase-byte-reads
+use Rattle.lasso.proofs.phase_in.Reads as phase-in-reads
 
 abbrev Inv-loop : tie.InvT-loop
 Inv-loop trace n count₀ i₀ count i = (count ≡ countB (markB trace 0) i) × (count ≤ i) × (i ≤ positions trace)
@@ -23,8 +23,8 @@ loop-holds : tie.Need-loop-holds Inv-loop μ-loop
 unfolding countB
 loop-holds c = (refl, omega arith, omega arith)
 
-phase-byte-requires : tie.Need-phase-byte-requires Inv-loop μ-loop
-phase-byte-requires c κs = search needs
+phase-in-requires : tie.Need-phase-in-requires Inv-loop μ-loop
+phase-in-requires c κs = search needs
 
 add-count : tie.Need-add-count Inv-loop μ-loop
 add-count c = search needs
@@ -37,8 +37,8 @@ loop-less c = search needs
 
 loop-again : tie.Need-loop-again Inv-loop μ-loop
 loop-again c = ⊎-elim
-    (λ w. (rw (w .1) (one-more _ _ _ _ (c .before .phase-byte .ensures) (c .before .before .before .loop .inv .0) (w .0 .taken)), omega arith, omega arith))
-    (λ w. (rw (w .1) (no-more _ _ _ _ (c .before .phase-byte .ensures) (c .before .before .before .loop .inv .0) (w .0 .left)), omega arith, omega arith))
+    (λ w. (rw (w .1) (one-more _ _ _ _ (c .before .phase-in .ensures) (c .before .before .before .loop .inv .0) (w .0 .taken)), omega arith, omega arith))
+    (λ w. (rw (w .1) (no-more _ _ _ _ (c .before .phase-in .ensures) (c .before .before .before .loop .inv .0) (w .0 .left)), omega arith, omega arith))
     (c .if1 .came)
 
 returns : tie.Need-returns Inv-loop μ-loop
@@ -51,7 +51,7 @@ count-inputs-spec =
     Inv-loop
     μ-loop
     loop-holds
-    phase-byte-requires
+    phase-in-requires
     add-count
     add-i
     loop-less

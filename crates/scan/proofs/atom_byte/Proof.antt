@@ -1,10 +1,10 @@
 use Prim.Native.Nat.{_+_, _-_, _≤_}
-use mathlib.Core.Path.{_≡_, refl}
+use mathlib.Core.Path.{_≡_}
 use native.Mathlib.Nat.{add-zero}
 use native.Mathlib.Omega.{arith}
 use Rattle.scan.specs.Guards.{atomOf}
 use Rattle.scan.specs.Position.{packed, atomByte}
-use Rattle.scan.proofs.Position.{packed-room, packed-next, one-digit}
+use Rattle.scan.proofs.Position.{packed-begin, packed-room, packed-next, one-digit}
 use borrow.Author.Needs.{needs}
 use Rattle.scan.proofs.atom_byte.Statement.{statement}
 use Rattle.scan.proofs.atom_byte.Tie as tie
@@ -12,16 +12,20 @@ use Rattle.scan.proofs.atom_byte.Reads as reads
 use Rattle.scan.proofs.atom_byte.Lts as lts
 use Rattle.scan.proofs.atom_of.Reads as atom-of-reads
 use Rattle.scan.proofs.digit_of.Reads as digit-of-reads
+use Rattle.scan.proofs.tested.Reads as tested-reads
 
 abbrev Inv-loop : tie.InvT-loop
-Inv-loop table variables states from byte₀ left₀ byte left = (byte ≡ packed (8 - left) (atomOf table variables states) (from + left)) × (left ≤ 8)
+Inv-loop table variables states tests first from byte₀ left₀ byte left =
+    (byte ≡ packed (8 - left) (atomOf table variables states) (from + left)) × (left ≤ 8) × (left ≤ tests - from)
 
 abbrev μ-loop : tie.MeasureT-loop
-μ-loop table variables states from byte₀ left₀ byte left = left
+μ-loop table variables states tests first from byte₀ left₀ byte left = left
+
+tested-requires : tie.Need-tested-requires Inv-loop μ-loop
+tested-requires c κs = search needs
 
 loop-holds : tie.Need-loop-holds Inv-loop μ-loop
-unfolding packed
-loop-holds c = (refl, omega arith)
+loop-holds c = (packed-begin _ _ _ _ _ _ (c .before .before .before .before .pre .0) (c .tested .ensures), omega arith, omega arith)
 
 sub-left : tie.Need-sub-left Inv-loop μ-loop
 sub-left c = search needs
@@ -48,7 +52,7 @@ loop-less : tie.Need-loop-less Inv-loop μ-loop
 loop-less c = search needs
 
 loop-again : tie.Need-loop-again Inv-loop μ-loop
-loop-again c = (rw (c .before .before .before .loop .inv .0, c .digit-of .ensures, c .before .atom-of .ensures) (packed-next _ _ _ (c .before .before .loop-test .taken) (c .before .before .before .loop .inv .1)), omega arith)
+loop-again c = (rw (c .before .before .before .loop .inv .0, c .digit-of .ensures, c .before .atom-of .ensures) (packed-next _ _ _ (c .before .before .loop-test .taken) (c .before .before .before .loop .inv .1)), omega arith, omega arith)
 
 returns : tie.Need-returns Inv-loop μ-loop
 unfolding atomByte
@@ -60,6 +64,7 @@ atom-byte-spec =
     (tie.spec
     Inv-loop
     μ-loop
+    tested-requires
     loop-holds
     sub-left
     add-atom-of

@@ -4,11 +4,25 @@ use Rattle.scan.proofs.put_atoms.Statement.{statement}
 use Rattle.scan.proofs.put_atoms.Tie as tie
 use Rattle.scan.proofs.put_atoms.Reads as reads
 use Rattle.scan.proofs.put_atoms.Lts as lts
+use Rattle.lookups.proofs.outputs.Reads as outputs-reads
+use Rattle.lookups.proofs.tests.Reads as tests-reads
 use Rattle.scan.proofs.atom_byte.Reads as atom-byte-reads
 use Rattle.scan.proofs.put_byte.Reads as put-byte-reads
 
 add-last : tie.Need-add-last
 add-last c = search needs
+
+tests-requires : tie.Need-tests-requires
+tests-requires c κs = search needs
+
+outputs-requires : tie.Need-outputs-requires
+outputs-requires c κs = search needs
+
+cast-first : tie.Need-cast-first
+cast-first c = search needs
+
+add-first : tie.Need-add-first
+add-first c = search needs
 
 atom-byte-requires : tie.Need-atom-byte-requires
 atom-byte-requires c κs = search needs
@@ -57,6 +71,10 @@ put-atoms-spec =
     tie.close
     (tie.spec
     add-last
+    tests-requires
+    outputs-requires
+    cast-first
+    add-first
     atom-byte-requires
     put-byte-requires
     atom-byte-requires-2

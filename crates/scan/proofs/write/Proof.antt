@@ -2,20 +2,20 @@ use Prim.Native.Nat.{_-_, _≤_}
 use mathlib.Core.Path.{_≡_, refl, _∙_}
 use native.Mathlib.Nat.{sub-zero}
 use native.Mathlib.Omega.{arith}
+use lib.ListN.{length}
 use Rattle.scan.specs.Scanning.{written, writeOf}
-use Rattle.scan.proofs.Ends.{with, written-again, written-last}
+use Rattle.scan.proofs.Ends.{with, stored, written-again, written-last}
 use borrow.Author.Needs.{needs}
 use Rattle.scan.proofs.write.Statement.{statement}
 use Rattle.scan.proofs.write.Tie as tie
 use Rattle.scan.proofs.write.Reads as reads
 use Rattle.scan.proofs.write.Lts as lts
-use Rattle.controller.proofs.Controller.variable.Reads as variable-reads
 use Rattle.controller.proofs.Controller.with_counter.Reads as with-counter-reads
 use Rattle.lookups.proofs.inputs.Reads as inputs-reads
 use Rattle.lookups.proofs.internals.Reads as internals-reads
 use Rattle.lookups.proofs.outputs.Reads as outputs-reads
 use Rattle.lookups.proofs.source.Reads as source-reads
-use Rattle.scan.proofs.put.Reads as put-reads
+use Rattle.scan.proofs.value_at.Reads as value-at-reads
 
 abbrev Inv-loop : tie.InvT-loop
 Inv-loop table first n state₀ k₀ state k = (with (written table (n - k) k) state ≡ with (written table n 0) state₀) × (k ≤ n)
@@ -50,17 +50,20 @@ loop-holds c = (rw sub-zero refl, omega arith)
 source-requires : tie.Need-source-requires Inv-loop μ-loop
 source-requires c κs = search needs
 
-variable-requires : tie.Need-variable-requires Inv-loop μ-loop
-variable-requires c κs = search needs
+value-at-requires : tie.Need-value-at-requires Inv-loop μ-loop
+value-at-requires c κs = search needs
 
-cast-put : tie.Need-cast-put Inv-loop μ-loop
-cast-put c = search needs
+cast-at : tie.Need-cast-at Inv-loop μ-loop
+cast-at c = search needs
 
-add-put : tie.Need-add-put Inv-loop μ-loop
-add-put c = search needs
+add-at : tie.Need-add-at Inv-loop μ-loop
+add-at c = search needs
 
-put-requires : tie.Need-put-requires Inv-loop μ-loop
-put-requires c κs = search needs
+mul-state : tie.Need-mul-state Inv-loop μ-loop
+mul-state c = search needs
+
+element-write-state : tie.Need-element-write-state Inv-loop μ-loop
+element-write-state c = search needs
 
 add-k : tie.Need-add-k Inv-loop μ-loop
 add-k c = search needs
@@ -69,7 +72,10 @@ loop-less : tie.Need-loop-less Inv-loop μ-loop
 loop-less c = search needs
 
 loop-again : tie.Need-loop-again Inv-loop μ-loop
-loop-again c = (written-again _ _ _ _ _ (c .before .before .before .loop-test .taken) (rw (c .put .ensures, c .before .variable .ensures, c .before .before .source .ensures, c .before .before .before .before .before .before .before .internals .ensures, c .before .before .before .before .before .before .before .before .inputs .ensures) refl) (c .before .before .before .before .loop .inv .0), omega arith)
+loop-again c =
+    let n : length (c .before .before .before .before .before .before .before .loop .state .variables) ≡ 32 = search needs in
+    let q = stored _ _ _ _ n (λ w. w .left) (c .if1 .came) in
+    (written-again _ _ _ _ _ (c .before .before .before .before .before .before .loop-test .taken) (rw (q, c .before .value-at .ensures, c .before .before .before .before .before .source .ensures, c .before .before .before .before .before .before .before .before .before .before .internals .ensures, c .before .before .before .before .before .before .before .before .before .before .before .inputs .ensures) refl) (c .before .before .before .before .before .before .before .loop .inv .0), omega arith)
 
 returns : tie.Need-returns Inv-loop μ-loop
 unfolding writeOf
@@ -90,10 +96,11 @@ write-spec =
     with-counter-requires
     loop-holds
     source-requires
-    variable-requires
-    cast-put
-    add-put
-    put-requires
+    value-at-requires
+    cast-at
+    add-at
+    mul-state
+    element-write-state
     add-k
     loop-less
     loop-again

@@ -1,6 +1,5 @@
-use mathlib.Core.Path.{sym, _∙_}
 use borrow.Author.Needs.{needs}
-use Rattle.run.specs.Running.{closing}
+use Rattle.run.proofs.Closing.{alike, differs}
 use Rattle.run.proofs.route.close.Statement.{statement}
 use Rattle.run.proofs.route.close.Tie as tie
 use Rattle.run.proofs.route.close.Reads as reads
@@ -11,12 +10,10 @@ same-as-requires : tie.Need-same-as-requires
 same-as-requires c κs = search needs
 
 returns : tie.Need-returns
-unfolding closing
-returns c = rw (sym (c .before .same-as .ensures) ∙ c .if1 .taken)
+returns c = let a = c .before .before .before .before .before .before .args in alike (a .q) (a .back) (a .last) _ (c .before .same-as .ensures) (c .if1 .taken)
 
 returns-2 : tie.Need-returns-2
-unfolding closing
-returns-2 c = rw (sym (c .before .same-as .ensures) ∙ c .if1 .left)
+returns-2 c = let a = c .before .before .before .before .before .before .args in differs (a .q) (a .back) (a .last) _ (c .before .same-as .ensures) (c .if1 .left)
 
 pub close-spec : {M : Type 1} → statement M
 close-spec = tie.close (tie.spec same-as-requires returns returns-2)

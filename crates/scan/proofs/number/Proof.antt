@@ -1,0 +1,22 @@
+use mathlib.Core.Path.{refl}
+use Rattle.controller.proofs.Arrays.{outside}
+use borrow.Author.Needs.{needs}
+use Rattle.scan.proofs.number.Statement.{statement}
+use Rattle.scan.proofs.number.Tie as tie
+use Rattle.scan.proofs.number.Reads as reads
+use Rattle.scan.proofs.number.Lts as lts
+
+mul-result : tie.Need-mul-result
+mul-result c = search needs
+
+shared-slice-read-result : tie.Need-shared-slice-read-result
+shared-slice-read-result c = search needs
+
+returns : tie.Need-returns
+returns c = search needs
+
+returns-2 : tie.Need-returns-2
+returns-2 c = outside (c .before .args .table .now) _ _ _ refl (c .if1 .left)
+
+pub number-spec : {M : Type 1} → statement M
+number-spec = tie.close (tie.spec mul-result shared-slice-read-result returns returns-2)
