@@ -19,7 +19,7 @@ use Rattle.meaning.specs.Translation.{translate}
 use Rattle.meaning.specs.Trace.{Trace, WellFormed, Follows, after, position}
 use Rattle.meaning.specs.Rows.{judge, walk}
 use Rattle.meaning.specs.Findings.{Findings, select}
-use Rattle.marked.specs.Marked.{bench, benchBytes, marked, slips, Case, holds, fails, finds, gives, bytes, Stated, All}
+use Rattle.marked.specs.Marked.{answered, bench, benchBytes, marked, slips, Case, holds, fails, finds, gives, bytes, Stated, All}
 use Rattle.coding.specs.declared.Answer.the-variants.{Count}
 use Rattle.bits.specs.Bits.{bitB}
 use Rattle.lasso.specs.Bytes.{atomB}
@@ -85,3 +85,8 @@ shown = all-passed marked refl
 pub slips-shown : All Stated slips
 unfolding tests test select judge walk decide position same translate atomB bitB
 slips-shown = all-passed slips refl
+
+-- The verdict that the bench case prints.
+pub verdict-shown : Stated (holds answered 0)
+unfolding test judge walk decide position atomB bitB
+verdict-shown = passed (holds answered 0) refl

@@ -5,3 +5,4 @@ pub mod Few
 pub mod Answering
 pub mod Enough
 pub mod Unique
+pub mod Bench
