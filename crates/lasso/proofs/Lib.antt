@@ -3,3 +3,4 @@ pub mod Steps
 pub mod WellFormed
 pub mod Examples
 pub mod Unique
+pub mod Looking

@@ -1,10 +1,11 @@
 -- The bytes of a trace. Document 01, Phases and the lasso: "In the trace each has 5 bytes: phase, then 32 atoms, atom 0 the lowest bit, low byte first".
 -- Assumes nothing: these are definitions.
 use Prim.Native.Nat.{ℕ, zero, suc, _+_, _*_, _/_, _%_}
-use mathlib.Core.Bool.{Bool}
+use mathlib.Core.Bool.{Bool, false}
 use mathlib.Core.List.{List}
 use lib.ListN.{length, getD}
-use lib.Dec.{eqb}
+use lib.Dec.{eqb, ltb}
+use Rattle.coding.specs.Number.{pick}
 use Rattle.requirement.specs.declared.Phase.{Phase}
 use Rattle.requirement.specs.declared.Phase.the-variants.{Input, Exe, Output}
 use Rattle.meaning.specs.Trace.{Trace}
@@ -35,6 +36,10 @@ markB s m p = eqb (phaseByte s p) m
 -- Atom a, 0 to 31, at position p.
 unfoldable pub atomB : List ℕ → ℕ → ℕ → Bool
 atomB s a p = bitB (getD s (p * 5 + 1 + a / 8) 0) (a % 8)
+
+-- What a caller is told: no atom above 31 holds anywhere.
+unfoldable pub atomAt : List ℕ → ℕ → ℕ → Bool
+atomAt s a p = pick (ltb a 32) (atomB s a p) false
 
 -- The lasso that a trace's bytes and a loop start are.
 abbrev pub traceOf : List ℕ → ℕ → Trace

@@ -5,7 +5,8 @@ use requirement::Phase;
 ghost use mathlib.Core.Path.{_≡_};
 ghost use Rattle.bits.specs.Rows.{afterOf};
 ghost use Prim.Native.Nat.{_<_, _-_};
-ghost use Rattle.lasso.specs.Bytes.{phaseNumber, positions, phaseByte, inputsIn};
+ghost use Rattle.bits.specs.Bits.{bitB};
+ghost use Rattle.lasso.specs.Bytes.{phaseNumber, positions, phaseByte, atomAt, inputsIn};
 ghost use Rattle.lasso.specs.Checking.{lengthOk, mayFollow, stepsFrom, outputFrom, checkTrace};
 
 // The byte of a phase.
@@ -25,6 +26,45 @@ fn phase_in(trace: &[u8], p: usize) -> u8
     ensures { λ r. ⌜ r ≡ phaseByte (now (trace .entry)) p ⌝ }
 {
     trace[p * 5]
+}
+
+// The phase byte of a position; 0 past the end.
+pub fn phase_byte(trace: &[u8], p: usize) -> u8
+    ensures { λ r. ⌜ r ≡ phaseByte (now (trace .entry)) p ⌝ }
+{
+    if trace.len() / 5 < p {
+        return 0;
+    }
+    let at = p * 5;
+    if at < trace.len() {
+        return trace[at];
+    }
+    0
+}
+
+// Digit k of x, for k below 8.
+fn digit_of(x: u8, k: u16) -> bool
+    requires { ⌜ k < 8 ⌝ }
+    ensures { λ r. ⌜ r ≡ bitB x k ⌝ }
+{
+    (x >> k) % 2 == 1
+}
+
+// Whether atom a holds at a position; none above 31 does, and none past the end.
+pub fn atom_at(trace: &[u8], p: usize, a: u16) -> bool
+    ensures { λ r. ⌜ r ≡ atomAt (now (trace .entry)) a p ⌝ }
+{
+    if 31 < a {
+        return false;
+    }
+    if trace.len() / 5 < p {
+        return false;
+    }
+    let at = p * 5 + 1 + (a / 8) as usize;
+    if at < trace.len() {
+        return digit_of(trace[at], a % 8);
+    }
+    false
 }
 
 fn length_ok(n: usize) -> bool
