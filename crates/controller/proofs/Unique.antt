@@ -13,10 +13,6 @@ use Rattle.controller.specs.declared.Action.{Action}
 use Rattle.controller.specs.declared.Acted.{Acted}
 use Rattle.controller.proofs.Controller.act.Kinds as act
 use Rattle.controller.proofs.Controller.act.Reads as act-reads
-use Rattle.controller.proofs.Controller.variable.Kinds as variable
-use Rattle.controller.proofs.Controller.variable.Reads as variable-reads
-use Rattle.controller.proofs.Controller.with_variable.Kinds as with-variable
-use Rattle.controller.proofs.Controller.with_variable.Reads as with-variable-reads
 use Rattle.controller.proofs.Controller.process.Kinds as process
 use Rattle.controller.proofs.Controller.process.Reads as process-reads
 use Rattle.controller.proofs.Controller.raise_timers.Kinds as raise-timers
@@ -38,14 +34,6 @@ module _ (κs : Lfts 0) where
   pub act-unique : (r t : Acted) (a : Dens κs act.ps) (e f : AtExit (endedOf 0 act.ps act.r) κs) →
       act-reads.Post κs a r e → act-reads.Post κs a t f → r ≡ t
   act-unique r t a e f p q = p ∙ sym q
-
-  pub variable-unique : (r t : ℕ) (a : Dens κs variable.ps) (e f : AtExit (endedOf 0 variable.ps variable.r) κs) →
-      variable-reads.Post κs a r e → variable-reads.Post κs a t f → r ≡ t
-  variable-unique r t a e f p q = p ∙ sym q
-
-  pub with-variable-unique : (r t : Controller) (a : Dens κs with-variable.ps) (e f : AtExit (endedOf 0 with-variable.ps with-variable.r) κs) →
-      with-variable-reads.Post κs a r e → with-variable-reads.Post κs a t f → r ≡ t
-  with-variable-unique r t a e f p q = p ∙ sym q
 
   pub process-unique : (r t : Process) (a : Dens κs process.ps) (e f : AtExit (endedOf 0 process.ps process.r) κs) →
       process-reads.Post κs a r e → process-reads.Post κs a t f → r ≡ t

@@ -57,10 +57,6 @@ waited bound k v p q =
 unfoldable pub restarted : List ℕ → Process → Process → Done
 restarted v p q = pick (eqb (p .timer) none) (noRule v p q) (passes v (timed (goes p 1) 0) q)
 
--- next: f_i^(j+1)
-unfoldable pub following : ℕ → ℕ
-following f = up f
-
 -- The rule of an action; k is next(a).
 abbrev pub ruleOf : Action → ℕ → List ℕ → Process → Process → Done
 -- skip: (pc' = i + 1)
@@ -74,10 +70,10 @@ ruleOf Reset k v p q = restarted v p q
 ruleOf (StartP x) k v p q = stays v (goes p k) (entering 1 1)
 -- stopP: (f'_k = stop, a'_k = ⊥, t'_k = ⊥, a'_i = next(a))
 ruleOf (StopP x) k v p q = stays v (goes p k) stopped
--- set, start, next: (f'_i = .., a'_i = 1, t'_i = ⊥); "set, start and next leave the turn with the same process"
+-- set, start, next: (f'_i = .., a'_i = 1, t'_i = ⊥), of next the state f_i^(j+1); "set, start and next leave the turn with the same process"
 ruleOf Start k v p q = stays v (entering 1 1) q
 ruleOf (Set j) k v p q = stays v (entering j 1) q
-ruleOf Next k v p q = stays v (entering (following (p .state)) 1) q
+ruleOf Next k v p q = stays v (entering (up (p .state)) 1) q
 -- stop, err: (f'_i = stop or err, a'_i = ⊥, t'_i = ⊥)
 ruleOf Stop k v p q = stays v (entering stop bodyEnd) q
 ruleOf Err k v p q = stays v (entering errState bodyEnd) q

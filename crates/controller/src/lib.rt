@@ -6,8 +6,7 @@ pub mod tests;
 ghost use mathlib.Core.Path.{_≡_};
 ghost use Rattle.ranges.specs.Limits.{mostProcesses};
 ghost use Prim.Native.Nat.{_-_};
-ghost use lib.ListN.{set};
-ghost use Rattle.controller.specs.State.{start, valueAt, recordAt, withRecord, statesOf, allRaised};
+ghost use Rattle.controller.specs.State.{start, recordAt, withRecord, statesOf, allRaised};
 ghost use Rattle.controller.specs.Rules.{actOf};
 ghost use Rattle.controller.specs.Actions.{actionOf};
 ghost use Rattle.controller.specs.Same.{sameState};
@@ -122,30 +121,6 @@ pub fn at_start() -> Controller
 }
 
 impl Controller {
-    // The value of variable x; none where there is no such variable.
-    pub fn variable(self, x: u16) -> u32
-        ensures { λ r. ⌜ r ≡ valueAt (self .variables) x ⌝ }
-    {
-        let at = x as usize;
-        if at < VARIABLES {
-            return self.variables[at];
-        }
-        NONE
-    }
-
-    // The state with a value for variable x.
-    pub fn with_variable(self, x: u16, value: u32) -> Controller
-        ensures { λ r. ⌜ r ≡ record { variables = set (self .variables) x value; processes = self .processes; counter = self .counter } ⌝ }
-    {
-        let at = x as usize;
-        let mut c = self;
-        if at < VARIABLES {
-            c.variables[at] = value;
-            return c;
-        }
-        c
-    }
-
     // The record of process i, from 1; 0 is taken for 1; stopped past the last.
     pub fn process(self, i: u16) -> Process
         ensures { λ r. ⌜ r ≡ recordAt (self .processes) i ⌝ }

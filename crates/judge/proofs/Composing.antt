@@ -1,46 +1,28 @@
 -- Rows in the work: a phase's bytes and its mark, an operator over rows that agree, and the first or the second row lent alone.
 -- Assumes nothing.
-use Prim.Native.Nat.{ℕ, zero, suc, _+_, _-_, _*_, _/_, _<_, _≤_}
-use mathlib.Core.Path.{_≡_, refl, ap, _∙_}
-use mathlib.Core.Bool.{Bool, not, _&&_, and-comm, decide}
+use Prim.Native.Nat.{ℕ, _+_, _-_, _*_, _/_, _<_, _≤_}
+use mathlib.Core.Path.{_≡_, ap, _∙_}
+use mathlib.Core.Bool.{Bool, not, _&&_, and-comm}
 use mathlib.Core.List.{List}
-use mathlib.Core.Logic.{⊎-elim}
-use native.Mathlib.Nat.{eq-or-lt-of-le}
 use native.Mathlib.Omega.{arith}
 use lib.ListN.{length, take, drop}
 use lib.Seq.{getD-take}
-use lib.Dec.{eqb}
-use borrow.Author.Tests.{lt-ltb, le-ltb}
 use borrow.Rule.Slice.PartMut.{midOf, putMid, mid-len, same-len-mid, drop-put}
 use Rattle.requirement.specs.declared.Phase.{Phase}
-use Rattle.requirement.specs.declared.Phase.the-variants.{Input, Exe, Output}
-use Rattle.meaning.specs.Phases.{Phase-discrete}
 use Rattle.meaning.specs.Rows.{rowed}
 use Rattle.bits.specs.Bits.{bitAt}
 use Rattle.bits.specs.Rows.{rowOf, afterOf}
 use Rattle.bits.proofs.Bytes.{same-bits, part-before, part-is}
 use Rattle.bits.proofs.Walks.{until-same}
-use Rattle.lasso.specs.Bytes.{phaseNumber, positions, phaseFrom, phaseByte, markB, traceOf}
+use Rattle.lasso.specs.Bytes.{phaseNumber, positions, markB, traceOf}
+use Rattle.lasso.proofs.Positions.{after-inside}
 use Rattle.judge.specs.Working.{Same, Room, isAt}
+use Rattle.judge.proofs.Rowing.{mark-is as position-is}
 
 -- ---- a phase by its byte
 
-byte-is : (b : ℕ) (phase : Phase) → b ≤ 2 → eqb b (phaseNumber phase) ≡ decide (Phase-discrete (phaseFrom b) phase)
-unfolding decide
-byte-is zero Input h = refl
-byte-is zero Exe h = refl
-byte-is zero Output h = refl
-byte-is (suc zero) Input h = refl
-byte-is (suc zero) Exe h = refl
-byte-is (suc zero) Output h = refl
-byte-is (suc (suc zero)) Input h = refl
-byte-is (suc (suc zero)) Exe h = refl
-byte-is (suc (suc zero)) Output h = refl
-byte-is (suc (suc (suc b))) phase h = absurd (omega arith)
-
 pub mark-is : {k : ℕ} {t : List ℕ} {start : ℕ} {w : List ℕ} → Room k t start w → (phase : Phase) (m : ℕ) → m ≡ phaseNumber phase → Same (positions t) (markB t m) (isAt t phase)
-unfolding markB
-mark-is {t = t} h phase m e p l = rw e (byte-is (phaseByte t p) phase (h .phases p l))
+mark-is {t = t} h phase m e p l = rw e (position-is t phase p (h .phases p l))
 
 -- ---- room in a work of the same length
 
@@ -55,8 +37,7 @@ module _ {t : List ℕ} {start : ℕ} {w v : List ℕ} where
 
 module _ {k : ℕ} {t : List ℕ} {start : ℕ} {w : List ℕ} (h : Room k t start w) where
   pub after-below : (p : ℕ) → p < positions t → afterOf (positions t) start p < positions t
-  after-below p l =
-      ⊎-elim (λ e. rw (le-ltb (suc p) (positions t) (omega arith)) (h .inside)) (λ (m : suc p < positions t). rw (lt-ltb (suc p) (positions t) m) m) (eq-or-lt-of-le l)
+  after-below p l = after-inside p (h .inside)
 
   pub until-of : {r u v f g : ℕ → Bool} → Same (positions t) r (rowed (traceOf t start) .U u v) → Same (positions t) u f → Same (positions t) v g
       → Same (positions t) r (rowed (traceOf t start) .U f g)

@@ -1,19 +1,16 @@
 -- The recursion's rows: what each arm of it, by its node, makes of its operands' rows.
 -- Assumes nothing.
-use Prim.Native.Nat.{ℕ, zero, suc, _+_, _-_, _*_, _/_, _<_, _≤_}
+use Prim.Native.Nat.{ℕ, zero, suc, _+_, _-_, _*_, _<_, _≤_}
 use native.Mathlib.Omega.{arith}
-use native.Mathlib.Nat.{suc-mul, eq-or-lt-of-le}
+use native.Mathlib.Nat.{suc-mul}
 use mathlib.Core.Path.{_≡_, refl, sym, ap, ap₂, _∙_}
-use mathlib.Core.Logic.{⊎-elim}
-use mathlib.Core.Bool.{Bool, true, false, not, _&&_, decide}
+use mathlib.Core.Bool.{Bool, not, _&&_, decide}
 use mathlib.Core.List.{List}
 use lib.ListN.{length, take, drop, length-drop}
 use lib.Seq.{length-take-le}
-use lib.Dec.{eqb, ltb}
-use borrow.Author.Tests.{lt-ltb, le-ltb}
+use lib.Dec.{eqb}
 use borrow.Rule.Slice.PartMut.{putMid}
 use Rattle.coding.specs.declared.Cause.{Cause}
-use Rattle.requirement.specs.Requirement.{Requirement}
 use Rattle.requirement.specs.Reading.{nodeAt}
 use Rattle.requirement.specs.Walking.{Walked, walked, lost, overOne, overTwo, withSecond, walkAt}
 use Rattle.requirement.specs.declared.Kind.{Kind}
@@ -36,14 +33,11 @@ use Rattle.bits.specs.Rows.{rowOf}
 use Rattle.bits.proofs.Bytes.{part-before, part-is}
 use Rattle.bits.proofs.Walks.{until-same}
 use Rattle.lasso.specs.Bytes.{phaseNumber, positions, phaseFrom, phaseByte, markB, atomB, traceOf}
+use Rattle.lasso.proofs.Positions.{after-inside}
 use Rattle.judge.specs.Working.{Same, isAt, Room, oneOf, twoOf, Rowed}
 
 -- ---- rows that agree at the stored positions give, by every operator, rows that agree there
 module _ (t : Trace) (inside : t .loop < t .len) where
-  after-below : (i : ℕ) → i < t .len → after t i < t .len
-  after-below i h =
-      ⊎-elim (λ e. rw (le-ltb (suc i) (t .len) (omega arith)) inside) (λ (l : suc i < t .len). rw (lt-ltb (suc i) (t .len) l) l) (eq-or-lt-of-le h)
-
   until-agree : {f f′ g g′ : ℕ → Bool} → Agree t f f′ → Agree t g g′ → (i : ℕ) → i < t .len → untilRow t f g i ≡ untilRow t f′ g′ i
   until-agree {f} {f′} {g} {g′} a b = until-same (t .len) (t .loop) f′ g′ f g inside (a .at) (b .at)
 
@@ -53,7 +47,7 @@ module _ (t : Trace) (inside : t .loop < t .len) where
         is = λ p. record { at = λ i h. refl };
         neg = λ a. record { at = λ i h. ap not (a .at i h) };
         both = λ a b. record { at = λ i h. ap₂ _&&_ (a .at i h) (b .at i h) };
-        X = λ a. record { at = λ i h. a .at (after t i) (after-below i h) };
+        X = λ a. record { at = λ i h. a .at (after t i) (after-inside i inside) };
         F = λ a. record { at = until-agree (record { at = λ i h. refl }) a };
         G = λ a. record { at = λ i h. ap not (until-agree (record { at = λ j l. refl }) (record { at = λ j l. ap not (a .at j l) }) i h) };
         U = λ a b. record { at = until-agree a b };

@@ -1,6 +1,6 @@
 -- For the code: rows that agree at the stored positions; and a walk, one step after the other from its end.
 -- Assumes nothing.
-use Prim.Native.Nat.{ℕ, suc, _≤_, _<_, _-_}
+use Prim.Native.Nat.{ℕ, suc, _<_, _-_}
 use native.Mathlib.Omega.{arith}
 use mathlib.Core.Bool.{Bool, _&&_, _||_}
 use mathlib.Core.Path.{_≡_}
@@ -18,10 +18,3 @@ walk-end f g v n = let e : n - n ≡ 0 = omega arith in rw e
 pub walk-step : (f g : ℕ → Bool) (v : Bool) (n i : ℕ) → i < n → walk f g v (n - i) i ≡ g i || (f i && walk f g v (n - suc i) (suc i))
 unfolding walk
 walk-step f g v n i h = let e : n - i ≡ suc (n - suc i) = omega arith in rw e
-
--- The same for a loop that comes down to i - 1.
-pub walk-back : (f g : ℕ → Bool) (v : Bool) (n i : ℕ) → 0 < i → i ≤ n
-    → walk f g v (n - (i - 1)) (i - 1) ≡ g (i - 1) || (f (i - 1) && walk f g v (n - i) i)
-walk-back f g v n i p h =
-    let e : suc (i - 1) ≡ i = omega arith in
-    rw e at (walk-step f g v n (i - 1) (omega arith))

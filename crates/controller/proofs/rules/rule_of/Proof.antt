@@ -1,5 +1,4 @@
 use mathlib.Core.Path.{refl}
-use Rattle.controller.specs.Rules.{following}
 use borrow.Author.Needs.{needs}
 use Rattle.controller.proofs.rules.rule_of.Statement.{statement}
 use Rattle.controller.proofs.rules.rule_of.Tie as tie
@@ -140,7 +139,6 @@ returns-9 : tie.Need-returns-9
 returns-9 c = rw (c .before .before .action3 .given .1) (c .enters2 .ensures)
 
 returns-10 : tie.Need-returns-10
-unfolding following
 returns-10 c = rw (c .before .before .enum-told7 .given .1, c .enters3 .ensures, c .before .up .ensures) refl
 
 returns-11 : tie.Need-returns-11
