@@ -21,7 +21,9 @@ use Rattle.ranges.specs.declared.Want.{Want}
 use Rattle.ranges.specs.declared.Step.the-variants.{More, Last, NotAllowed as Bad}
 use Rattle.table.specs.declared.Role.{Role}
 use Rattle.table.specs.Table.{roleOf, noted, noCounts, ended, endedAt, check, countsFrom}
+use Rattle.table.specs.Skipping.{Passes}
 use Rattle.table.proofs.Steps.{check-item, counts-item, turned, stopped}
+use Rattle.table.proofs.Stands.{few-behind}
 
 -- whether something is left over shows by the place
 module _ (n next size : ℕ) where
@@ -54,6 +56,16 @@ begins most fromBytes s xs first = record { left = refl; kept = refl; room = ref
 
 module _ {most : ℕ} {fromBytes : Bool} {s xs : List ℕ} {first : Want} {counts : List ℕ} {want : Want} {at n : ℕ}
     (i : Looks most fromBytes s xs first counts want at n) where
+  -- what is gone over quickly is as if looked at number by number
+  pub skipped : {want′ : Want} {at′ n′ : ℕ} → Passes fromBytes s xs want at n want′ at′ n′ → Looks most fromBytes s xs first counts want′ at′ n′
+  skipped p = record {
+    left = sym (p .answers most) ∙ i .left;
+    kept = sym (p .counts most counts) ∙ i .kept;
+    room = i .room;
+    few = few-behind p (i .few);
+    inside = p .inside (i .inside);
+  }
+
   pub stops : (cause : Cause) (q : ℕ) → Fault cause q ≡ sourceNumber fromBytes s xs at → Found most first (sourceAt fromBytes s xs 0) (Refused cause q) counts
   unfolding check countsFrom
   stops cause q e =

@@ -1,5 +1,6 @@
 pub mod Roles
 pub mod Steps
+pub mod Stands
 pub mod FirstLook
 pub mod SecondLook
 pub mod Whole

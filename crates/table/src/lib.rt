@@ -1,4 +1,5 @@
 // The reader and the writer of tables and of inputs records: each number is checked by the machine of `ranges`, from bytes or from numbers.
+mod skips;
 mod tests;
 
 use coding::Answer;
@@ -87,6 +88,10 @@ fn look(most: u16, first: Want, from_bytes: bool, code: &[u8], numbers: &[u16]) 
     let mut at: usize = 0;
     let mut n: usize = 0;
     loop {
+        let stand = skips::skip(want, from_bytes, code, numbers, at, n);
+        want = stand.want;
+        at = stand.at;
+        n = stand.count;
         match coding::number_at(from_bytes, code, numbers, at) {
             Number::Fault(cause, place) => {
                 let answer = Answer::Refused(cause, place);
