@@ -5,11 +5,12 @@ use crate::peers::plain_judge::PlainJudge;
 use crate::peers::run::Runner;
 use crate::peers::{self, Answer};
 use second::random::{self, Random};
+use second::random_report::report_case;
 use second::random_run::run_case;
 use second::refusal::Refusal;
 use second::requirement::Which;
 use second::run::{run, Ran};
-use second::{judging, table, translation};
+use second::{judging, report, table, translation};
 
 const CASES: u64 = 5_000;
 
@@ -98,5 +99,13 @@ fn reading_agrees() {
         let answer = peers::table::read_table(&code, &mut peer_out, &mut scratch);
         assert_eq!(answer, expected(read, |count| (count, 0)), "seed {seed}");
         assert_eq!(out, peer_out, "seed {seed}");
+    }
+}
+
+#[test]
+fn reports_agree() {
+    for seed in 0..CASES {
+        let input = report_case(&mut Random::new(seed));
+        assert_eq!(peers::report::report(&input), report::report(&input), "seed {seed}");
     }
 }

@@ -3,6 +3,7 @@
 use crate::peers::judge::Judge;
 use second::code::{bytes_of_numbers, Code};
 use second::random::{self, Random, TableSize};
+use second::random_run::{widest_inputs, widest_table};
 use second::requirement::Which;
 use second::run::{run, Path, Ran};
 use second::table::check_table;
@@ -100,6 +101,20 @@ pub fn longest_table() -> Vec<u8> {
     let numbers = random::table_of(&mut Random::new(11), &size);
     assert_eq!(numbers.len(), 6348);
     bytes_of_numbers(&numbers)
+}
+
+/// The longest input of the program: 1,365 scans of 32 inputs with 4,096 positions, and a requirement of 64 nodes, in
+/// just 60,000 bytes.
+pub fn longest_input(requirement: &[u8]) -> Vec<u8> {
+    let mut random = Random::new(13);
+    let table = bytes_of_numbers(&widest_table(&mut random));
+    let block = |bytes: &[u8]| [bytes_of_numbers(&[bytes.len() as u16]), bytes.to_vec()].concat();
+    let (first, last) = (block(&table), block(requirement));
+    // The length of the inputs has three bytes, and each of their first two numbers has two.
+    let inputs = bytes_of_numbers(&widest_inputs(&mut random, 60_000 - first.len() - last.len() - 3 - 4));
+    let input = [first, block(&inputs), last].concat();
+    assert_eq!(input.len(), 60_000);
+    input
 }
 
 const INPUTS: u16 = 8;

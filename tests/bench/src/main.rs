@@ -23,6 +23,9 @@ use peers::plain_judge::PlainJudge;
 use peers::run::Runner;
 use peers::Answer;
 use std::hint::black_box;
+use std::io::Write;
+use std::path::Path;
+use std::process::{Command, Stdio};
 use timing::Times;
 
 struct Bench {
@@ -41,6 +44,7 @@ fn main() {
     bench.runs();
     bench.translate("translate, 64 nodes", &mixed.code);
     bench.read_table("read table, 6,348 numbers", &cases::longest_table());
+    bench.program("scancheck, a process, 60,000 bytes", &cases::longest_input(&mixed.code));
 }
 
 impl Bench {
@@ -191,6 +195,43 @@ impl Bench {
         );
         self.print(task, times);
     }
+
+    /// The program itself, that `rt check scancheck` writes, against a program of the peers. Starting a process is in both.
+    fn program(&self, task: &str, input: &[u8]) {
+        if !self.wants(task) {
+            return;
+        }
+        let proved = Path::new(env!("CARGO_MANIFEST_DIR")).join("../../target/bin/scancheck");
+        let peer = std::env::current_exe().unwrap().with_file_name("peer");
+        let text = printed(&proved, input);
+        assert_eq!(text, printed(&peer, input), "{task}");
+        assert!(text.starts_with(b"positions 4096 "), "{task}");
+
+        let times = timing::compare(
+            self.samples,
+            || {
+                black_box(printed(&proved, input));
+            },
+            || {
+                black_box(printed(&peer, input));
+            },
+        );
+        self.print(task, times);
+    }
+}
+
+/// What a program prints for an input.
+fn printed(program: &Path, input: &[u8]) -> Vec<u8> {
+    let mut child = Command::new(program)
+        .stdin(Stdio::piped())
+        .stdout(Stdio::piped())
+        .spawn()
+        .unwrap_or_else(|error| panic!("{}: {error}", program.display()));
+    // Both programs read all of their input before they print.
+    child.stdin.take().unwrap().write_all(input).unwrap();
+    let output = child.wait_with_output().unwrap();
+    assert!(output.status.success(), "{}", program.display());
+    output.stdout
 }
 
 /// Both sides must have told the same.
