@@ -1,4 +1,4 @@
--- Rows in the work: a phase's bytes and its mark, an operator over rows that agree, and the first or the second row lent alone.
+-- Rows in the work: an operator over rows that agree, a phase's row lent from the marks, and the first or the second row of the work lent alone.
 -- Assumes nothing.
 use Prim.Native.Nat.{ℕ, _+_, _-_, _*_, _/_, _<_, _≤_}
 use mathlib.Core.Path.{_≡_, ap, _∙_}
@@ -9,20 +9,15 @@ use lib.ListN.{length, take, drop}
 use lib.Seq.{getD-take}
 use borrow.Rule.Slice.PartMut.{midOf, putMid, mid-len, same-len-mid, drop-put}
 use Rattle.requirement.specs.declared.Phase.{Phase}
+use Rattle.requirement.specs.declared.Phase.the-variants.{Input, Exe, Output}
 use Rattle.meaning.specs.Rows.{rowed}
 use Rattle.bits.specs.Bits.{bitAt}
 use Rattle.bits.specs.Rows.{rowOf, afterOf}
 use Rattle.bits.proofs.Bytes.{same-bits, part-before, part-is}
 use Rattle.bits.proofs.Walks.{until-same}
-use Rattle.lasso.specs.Bytes.{phaseNumber, positions, markB, traceOf}
+use Rattle.lasso.specs.Bytes.{positions, traceOf}
 use Rattle.lasso.proofs.Positions.{after-inside}
-use Rattle.judge.specs.Working.{Same, Room, isAt}
-use Rattle.judge.proofs.Rowing.{mark-is as position-is}
-
--- ---- a phase by its byte
-
-pub mark-is : {k : ℕ} {t : List ℕ} {start : ℕ} {w : List ℕ} → Room k t start w → (phase : Phase) (m : ℕ) → m ≡ phaseNumber phase → Same (positions t) (markB t m) (isAt t phase)
-mark-is {t = t} h phase m e p l = rw e (position-is t phase p (h .phases p l))
+use Rattle.judge.specs.Working.{Same, Room, isAt, markPlace, Marked}
 
 -- ---- room in a work of the same length
 
@@ -51,10 +46,29 @@ module _ (t : List ℕ) (phase : Phase) (w : List ℕ) (p : ℕ) where
   pub implied : not (not (bitAt w p) && isAt t phase p) ≡ not (isAt t phase p && not (bitAt w p))
   implied = ap not (and-comm (not (bitAt w p)) (isAt t phase p))
 
--- ---- one row of two lent alone, and back as x
+-- ---- the bits of a part
 
 was : (k : ℕ) (s : List ℕ) (p : ℕ) → p < 8 * k → bitAt (take k s) p ≡ bitAt s p
 was k s p l = same-bits (take k s) s p (getD-take k s (p / 8) 0 (omega arith))
+
+-- ---- a phase's row, lent from its place in the marks on
+
+pub place-most : (phase : Phase) → markPlace phase ≤ 1024
+place-most Input = omega arith
+place-most Exe = omega arith
+place-most Output = omega arith
+
+module _ {t m : List ℕ} (h : Marked t m) (few : positions t ≤ 4096) (phase : Phase) {from : ℕ} (e : from ≡ markPlace phase) where
+  pub place-inside : from ≤ length m
+  place-inside = omega (arith, e, place-most phase, h .size)
+
+  pub mark-fits : rowOf (positions t) ≤ length (midOf from (length m - from) m)
+  mark-fits = rw (mid-len from (length m) m (omega arith)) (omega (arith, e, place-most phase, h .size, few))
+
+  pub mark-is : Same (positions t) (bitAt (midOf from (length m - from) m)) (isAt t phase)
+  mark-is p l = was (length m - from) (drop from m) p (omega (arith, e, place-most phase, h .size, few)) ∙ rw e (h .rows phase p l)
+
+-- ---- one row of two lent alone, and back as x
 
 module _ (n r : ℕ) (w : List ℕ) (hn : n ≤ 8 * r) (hr : r + r ≤ length w) where
   first-at : Same n (bitAt (midOf 0 (r - 0) w)) (bitAt w)

@@ -1,4 +1,5 @@
 pub mod Packing
+pub mod Marking
 pub mod Rowing
 pub mod Failing
 pub mod Listing

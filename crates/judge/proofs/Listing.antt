@@ -4,19 +4,22 @@ use Prim.Native.Nat.{ℕ, zero, suc, _+_, _-_, _*_, _/_, _%_, _<_, _≤_}
 use native.Mathlib.Omega.{arith}
 use native.Mathlib.Nat.{suc-add, zero-add}
 use native.Mathlib.Numerals.{add-one}
-use mathlib.Core.Path.{_≡_, refl, sym, ap, _∙_}
-use mathlib.Core.Bool.{Bool, true, false}
+use mathlib.Core.Path.{_≡_, refl, ap, _∙_}
+use mathlib.Core.Bool.{Bool, true, false, not}
 use mathlib.Core.List.{List, [], _∷_}
-use lib.ListN.{length, set}
-use lib.Seq.{sets, length-sets}
-use borrow.Author.Tests.{lt-ltb, le-ltb}
+use lib.ListN.{length, getD, set}
+use lib.Dec.{ltb}
+use lib.Seq.{length-sets}
+use borrow.Author.Tests.{lt-ltb, le-ltb, ltb-true}
 use Rattle.coding.specs.Room.{over}
 use Rattle.coding.proofs.Bytes.{over-append}
 use Rattle.meaning.specs.Findings.{put, select}
-use Rattle.bits.specs.Bits.{digit, countB}
+use Rattle.bits.specs.Bits.{bitB, bitAt, digit, countB}
+use Rattle.bits.proofs.Digits.{bit-not, bit-low}
+use Rattle.bits.proofs.Bytes.{at-byte}
 use Rattle.bits.proofs.Counts.{count-add, count-same}
 use Rattle.judge.specs.Judging.{positionBytes}
-use Rattle.judge.specs.Working.{PutPosition}
+use Rattle.judge.specs.Working.{PutPosition, Listing}
 
 -- ---- the positions among k from i on
 module _ (b : ℕ → Bool) where
@@ -64,13 +67,21 @@ module _ (p at : ℕ) (d : List ℕ) where
   pub put-nowhere : length d ≤ at + 1 → PutPosition p d at d at
   put-nowhere h = rw (le-ltb (at + 1) (length d) h) (refl, refl)
 
--- ---- the loop: what is left to put gives the whole list
-pub record Listing (b : ℕ → Bool) (n : ℕ) (d₀ : List ℕ) (at p : ℕ) (d : List ℕ) : Type 0 where
-  pub below : p ≤ n
-  pub rest : over d at (positionBytes (select b (n - p) p)) ≡ over d₀ 0 (positionBytes (select b n 0))
-  pub room : at + 2 * length (select b (n - p) p) ≤ length d
-  pub size : length d ≡ length d₀
+  put-inside : at ≤ length d → (d′ : List ℕ) (r : ℕ) → PutPosition p d at d′ r → (r ≤ length d′) × (length d′ ≡ length d)
+  unfolding over positionBytes
+  put-inside h d′ r g = go (ltb (at + 1) (length d)) refl
+    where
+      go : (b : Bool) → ltb (at + 1) (length d) ≡ b → (r ≤ length d′) × (length d′ ≡ length d)
+      go true e =
+          let k = rw e at (g .0) in
+          let v : length d′ ≡ length d = ap length (rw e at (g .1)) ∙ length-sets d at (p % 256 ∷ p / 256 ∷ []) in
+          (omega (arith, ltb-true (at + 1) (length d) e), v)
+      go false e =
+          let k = rw e at (g .0) in
+          let v : length d′ ≡ length d = ap length (rw e at (g .1)) in
+          (omega arith, v)
 
+-- ---- the loop: what is left to put gives the whole list
 pub listing-none : (b : ℕ → Bool) (n : ℕ) (d : List ℕ) → 2 * countB b n ≤ length d → Listing b n d 0 0 d
 listing-none b n d h =
     let e : n - 0 ≡ n = omega arith in
@@ -102,3 +113,50 @@ module _ {b : ℕ → Bool} {n : ℕ} {d₀ : List ℕ} {at p : ℕ} {d : List �
   pub listing-done : n ≤ p → d ≡ over d₀ 0 (positionBytes (select b n 0))
   unfolding over positionBytes select
   listing-done l = let e : n - p ≡ 0 = omega arith in rw e at (h .rest)
+
+-- A stretch without a bit is passed at once.
+pub listing-pass : {b : ℕ → Bool} {n : ℕ} {d₀ : List ℕ} {at p : ℕ} {d : List ℕ} → Listing b n d₀ at p d → (k : ℕ) → p + k ≤ n
+    → ((j : ℕ) → j < k → b (p + j) ≡ false) → Listing b n d₀ at (p + k) d
+listing-pass {b} {n} {d₀} {at} {p} {d} h zero l none = let e : p + 0 ≡ p = omega arith in rw e h
+listing-pass {b} {n} {d₀} {at} {p} {d} h (suc k) l none =
+    let e : p + suc k ≡ p + k + 1 = omega arith in
+    rw e (listing-skip (listing-pass h k (omega arith) (λ j m. none j (omega arith))) (omega arith) (none k (omega arith)))
+
+digit-none : (j : ℕ) → j < 8 → bitB 0 j ≡ false
+digit-none j h = bit-not 8 255 j (omega arith) h ∙ ap not (bit-low 8 j h)
+
+pub listing-zero : (s : List ℕ) (i : ℕ) {n : ℕ} {d₀ : List ℕ} {at : ℕ} {d : List ℕ} → Listing (bitAt s) n d₀ at (8 * i) d → 8 * i + 8 ≤ n → getD s i 0 ≡ 0
+    → Listing (bitAt s) n d₀ at (8 * i + 8) d
+listing-zero s i h l e = listing-pass h 8 l (λ j m. at-byte s i j m ∙ rw e (digit-none (7 - j) (omega arith)))
+
+-- ---- the positions of one byte: wherever the list has come to that byte, it comes k of its positions further
+pub record Byte (s : List ℕ) (i place : ℕ) (d₀ : List ℕ) (at k : ℕ) (d : List ℕ) : Type 0 where
+  pub below : k ≤ 8
+  pub inside : at ≤ length d
+  pub size : length d ≡ length d₀
+  pub goes : (n : ℕ) (e : List ℕ) → 8 * i + 8 ≤ n → Listing (bitAt s) n e place (8 * i) d₀ → Listing (bitAt s) n e at (8 * i + k) d
+
+pub byte-none : (s : List ℕ) (i place : ℕ) (d : List ℕ) → place ≤ length d → Byte s i place d place 0 d
+byte-none s i place d h = record { below = omega arith; inside = h; size = refl; goes = λ n e l g. let z : 8 * i + 0 ≡ 8 * i = omega arith in rw z g }
+
+module _ {s : List ℕ} {i place : ℕ} {d₀ : List ℕ} {at k : ℕ} {d : List ℕ} (h : Byte s i place d₀ at k d) (more : k < 8) where
+  next : 8 * i + (k + 1) ≡ 8 * i + k + 1
+  next = omega arith
+
+  pub byte-skip : bitB (getD s i 0) (7 - k) ≡ false → Byte s i place d₀ at (k + 1) d
+  byte-skip e = record {
+    below = omega arith;
+    inside = h .inside;
+    size = h .size;
+    goes = λ n f l g. rw next (listing-skip (h .goes n f l g) (omega arith) (at-byte s i k more ∙ e));
+  }
+
+  pub byte-put : bitB (getD s i 0) (7 - k) ≡ true → (d′ : List ℕ) (r : ℕ) → PutPosition (8 * i + k) d at d′ r → Byte s i place d₀ r (k + 1) d′
+  byte-put e d′ r p =
+      let m = put-inside (8 * i + k) at d (h .inside) d′ r p in
+      record {
+        below = omega arith;
+        inside = m .0;
+        size = m .1 ∙ h .size;
+        goes = λ n f l g. rw next (listing-put (h .goes n f l g) (omega arith) (at-byte s i k more ∙ e) d′ r p);
+      }

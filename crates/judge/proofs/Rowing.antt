@@ -150,10 +150,9 @@ module _ (kind : Kind) (s : List ℕ) (at : ℕ) where
       unfolding judge
       rowed-atom k e h = rw (walk-down kind s at depth more _ e) (refl, h)
 
-      pub rowed-mark : (p : Phase) (m : ℕ) → nodeAt kind s at ≡ Found (Mark p) r → ((i : ℕ) → i < positions trace → phaseByte trace i ≤ 2)
-          → m ≡ phaseNumber p → Same (positions trace) (bitAt work) (markB trace m) → Rowed (walkAt kind depth s at) trace start work r
+      pub rowed-mark : (p : Phase) → nodeAt kind s at ≡ Found (Mark p) r → Same (positions trace) (bitAt work) (isAt trace p) → Rowed (walkAt kind depth s at) trace start work r
       unfolding judge
-      rowed-mark p m e g i h = rw (walk-down kind s at depth more _ e) (refl, λ q l. h q l ∙ rw i (mark-is trace p q (g q l)))
+      rowed-mark p e h = rw (walk-down kind s at depth more _ e) (refl, h)
 
       pub rowed-one : (o : One) {next : ℕ} → nodeAt kind s at ≡ Found (OverOne o) next → Rowed (overOne o (walkAt kind (depth - 1) s next)) trace start work r
           → Rowed (walkAt kind depth s at) trace start work r

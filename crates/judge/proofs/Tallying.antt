@@ -27,6 +27,9 @@ use Rattle.judge.proofs.Listing.{select-before}
 pub room-some : {d l : ℕ} {t w : List ℕ} → 0 < d → Room d t l w → rowOf (positions t) ≤ length w
 room-some h r = room-row (room-in r (λ z. omega arith))
 
+pub room-one : {d l : ℕ} {t w : List ℕ} → 0 < d → Room d t l w → Room 1 t l w
+room-one h r = record { inside = r .inside; few = r .few; phases = r .phases; room = omega (arith, room-some h r) }
+
 -- The first position is the highest digit of the first byte.
 pub first-bit : (w : List ℕ) → getD w 0 0 < 256 → leb 128 (getD w 0 0) ≡ bitAt w 0
 unfolding bitAt

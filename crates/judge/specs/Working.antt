@@ -4,7 +4,7 @@ use Prim.Native.Nat.{ℕ, _+_, _-_, _*_, _<_, _≤_}
 use mathlib.Core.Path.{_≡_}
 use mathlib.Core.Bool.{Bool, true, false, not, _&&_, decide}
 use mathlib.Core.List.{List, [], _∷_}
-use lib.ListN.{length}
+use lib.ListN.{length, getD, drop}
 use lib.Bits.{bitAnd}
 use lib.Dec.{ltb}
 use Rattle.coding.specs.Number.{pick}
@@ -24,9 +24,9 @@ use Rattle.meaning.specs.Trace.{Trace}
 use Rattle.meaning.specs.Translation.{oneTo, twoTo}
 use Rattle.meaning.specs.Findings.{select}
 use Rattle.meaning.specs.Rows.{judge, rowed}
-use Rattle.bits.specs.Bits.{bitAt, countB}
+use Rattle.bits.specs.Bits.{bitB, bitAt, countB}
 use Rattle.bits.specs.Rows.{rowOf}
-use Rattle.lasso.specs.Bytes.{positions, phaseFrom, phaseByte, traceOf}
+use Rattle.lasso.specs.Bytes.{positions, phaseFrom, phaseNumber, phaseByte, traceOf}
 use Rattle.judge.specs.declared.Tally.{Tally}
 
 -- Two tests agree at n positions; so a row's bits may agree with a test.
@@ -36,6 +36,22 @@ Same n f g = (p : ℕ) → p < n → f p ≡ g p
 -- Whether position p of the trace has this phase.
 abbrev pub isAt : List ℕ → Phase → ℕ → Bool
 isAt trace phase p = decide (Phase-discrete (phaseFrom (phaseByte trace p)) phase)
+
+-- The bytes of a row of 4,096 positions, the most there are.
+abbrev pub row4096 : ℕ
+row4096 = 512
+
+-- Digit k of one of the five bytes of position p.
+abbrev pub digitIn : List ℕ → ℕ → ℕ → ℕ → Bool
+digitIn trace column k p = bitB (getD trace (p * 5 + column) 0) k
+
+-- The rows of the three phases, one behind the other: where each phase stands.
+abbrev pub markPlace : Phase → ℕ
+markPlace phase = phaseNumber phase * row4096
+
+pub record Marked (trace marks : List ℕ) : Type 0 where
+  pub size : length marks ≡ 3 * row4096
+  pub rows : (phase : Phase) → Same (positions trace) (bitAt (drop (markPlace phase) marks)) (isAt trace phase)
 
 -- A well-formed trace as far as rows need it, with room for so many rows.
 pub record Room (rows : ℕ) (trace : List ℕ) (start : ℕ) (work : List ℕ) : Type 0 where
@@ -103,3 +119,14 @@ abbrev pub PutPosition : ℕ → List ℕ → ℕ → List ℕ → ℕ → Type 
 PutPosition p d at d′ r =
     (r ≡ pick (ltb (at + 1) (length d)) (at + 2) at)
     × (d′ ≡ pick (ltb (at + 1) (length d)) (over d at (positionBytes (p ∷ []))) d)
+
+-- How far the list of the positions of a row's n bits has come: up to position p its bytes stand before `at`, and what is left to put gives the whole list.
+pub record Listing (b : ℕ → Bool) (n : ℕ) (d₀ : List ℕ) (at p : ℕ) (d : List ℕ) : Type 0 where
+  pub below : p ≤ n
+  pub rest : over d at (positionBytes (select b (n - p) p)) ≡ over d₀ 0 (positionBytes (select b n 0))
+  pub room : at + 2 * length (select b (n - p) p) ≤ length d
+  pub size : length d ≡ length d₀
+
+-- The positions of byte i put into a list: wherever the list has come to that byte, it comes to the next.
+abbrev pub ListsByte : (ℕ → Bool) → ℕ → ℕ → List ℕ → ℕ → List ℕ → Type 0
+ListsByte b i at d r d′ = (n : ℕ) (d₀ : List ℕ) → 8 * i + 8 ≤ n → Listing b n d₀ at (8 * i) d → Listing b n d₀ r (8 * i + 8) d′

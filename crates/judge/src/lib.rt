@@ -15,6 +15,9 @@ ghost use Rattle.requirement.specs.Walking.{walkAt};
 ghost use Rattle.judge.specs.Judging.{checksOf, Judges};
 ghost use Rattle.judge.specs.Working.{Room, Tallies};
 
+// Room for the rows of the three phases.
+const MARKS: usize = 1536;
+
 // What judging answers: whether the requirement holds at moment 0 and how many findings there are, or a refusal.
 pub enum Judged {
     Verdict(bool, usize),
@@ -39,9 +42,11 @@ fn judge_rows(
     requires { ⌜ (0 < depth) × Room depth (now trace) start (now work) ⌝ }
     ensures { λ r. ⌜ Tallies (walkAt kind depth (now (code .entry)) 0) (now (trace .entry)) start (now (work .exit)) r ⌝ }
 {
-    tree::judge_node(kind, code, 0, depth, trace, start, work);
+    let mut marks = [0u8; MARKS];
+    rows::fill_marks(trace, &mut marks);
+    tree::judge_node(kind, code, 0, depth, trace, start, &marks, work);
     let holds = work[0] >= 128;
-    findings::keep_failing(trace, work);
+    findings::keep_failing(trace, start, &marks, work);
     let row = (trace.len() / 5 + 7) / 8;
     let count = findings::count_row(&work[0..row]);
     Tally {

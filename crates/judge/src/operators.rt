@@ -1,4 +1,5 @@
 // The operators on rows, by the translation's table: the operand's row is the first row of `work`, a second operand's the second. The answer stands in the first.
+// The rows of the phases are lent in `marks`.
 use crate::rows;
 use requirement::End;
 use requirement::Family;
@@ -15,7 +16,7 @@ ghost use Rattle.meaning.specs.Translation.{implies};
 ghost use Rattle.bits.specs.Bits.{bitAt};
 ghost use Rattle.bits.specs.Rows.{rowOf};
 ghost use Rattle.lasso.specs.Bytes.{positions, traceOf};
-ghost use Rattle.judge.specs.Working.{Same, isAt, Room, oneOf, twoOf, everOf, alwaysOf, nextOf, untilOf, within, reachOf};
+ghost use Rattle.judge.specs.Working.{Same, isAt, markPlace, Marked, Room, oneOf, twoOf, everOf, alwaysOf, nextOf, untilOf, within, reachOf};
 
 // The phase at an end of a scan.
 fn phase_of(end: End) -> Phase
@@ -27,12 +28,31 @@ fn phase_of(end: End) -> Phase
     }
 }
 
+// Where the row of a phase stands in the marks.
+fn mark_place(phase: Phase) -> usize
+    ensures { λ r. ⌜ (r ≡ markPlace phase) × (r ≤ 1024) ⌝ }
+{
+    lasso::phase_number(phase) as usize * rows::ROW
+}
+
+// The row of a phase in the first row of `work`.
+pub fn fill_phase(trace: &[u8], marks: &[u8], phase: Phase, work: &mut [u8])
+    requires { ⌜ Marked (now trace) (now marks) × (rowOf (positions (now trace)) ≤ length (now work)) × (positions (now trace) ≤ 4096) ⌝ }
+    ensures { λ _. ⌜ Same (positions (now (trace .entry))) (bitAt (now (work .exit))) (isAt (now (trace .entry)) phase) ⌝ }
+{
+    let row = (trace.len() / 5 + 7) / 8;
+    let from = mark_place(phase);
+    rows::copy_row(&marks[from..], work, row);
+}
+
 // The row where the phase is this one, and nothing elsewhere.
-fn keep(trace: &[u8], start: usize, phase: Phase, work: &mut [u8])
-    requires { ⌜ Room 1 (now trace) start (now work) ⌝ }
+fn keep(trace: &[u8], start: usize, marks: &[u8], phase: Phase, work: &mut [u8])
+    requires { ⌜ Room 1 (now trace) start (now work) × Marked (now trace) (now marks) ⌝ }
     ensures { λ _. ⌜ Same (positions (now (trace .entry))) (bitAt (now (work .exit))) (λ p. bitAt (now (work .entry)) p && isAt (now (trace .entry)) phase p) ⌝ }
 {
-    rows::mask_row(trace, lasso::phase_number(phase), work);
+    let row = (trace.len() / 5 + 7) / 8;
+    let from = mark_place(phase);
+    rows::mask_row(&marks[from..], work, row);
 }
 
 // The row turned: not.
@@ -45,13 +65,13 @@ fn turn(trace: &[u8], start: usize, work: &mut [u8])
 }
 
 // The phase implies the row: not(phase and not row).
-fn imply(trace: &[u8], start: usize, phase: Phase, work: &mut [u8])
-    requires { ⌜ Room 1 (now trace) start (now work) ⌝ }
+fn imply(trace: &[u8], start: usize, marks: &[u8], phase: Phase, work: &mut [u8])
+    requires { ⌜ Room 1 (now trace) start (now work) × Marked (now trace) (now marks) ⌝ }
     ensures { λ _. ⌜ Same (positions (now (trace .entry))) (bitAt (now (work .exit)))
         (implies (rowed (traceOf (now (trace .entry)) start)) (isAt (now (trace .entry)) phase) (bitAt (now (work .entry)))) ⌝ }
 {
     turn(trace, start, work);
-    keep(trace, start, phase, work);
+    keep(trace, start, marks, phase, work);
     turn(trace, start, work);
 }
 
@@ -94,60 +114,67 @@ fn always(trace: &[u8], start: usize, work: &mut [u8])
 }
 
 // The row where the phase is not this one.
-fn fill_lacking(trace: &[u8], start: usize, phase: Phase, work: &mut [u8])
-    requires { ⌜ Room 1 (now trace) start (now work) ⌝ }
+fn fill_lacking(trace: &[u8], start: usize, marks: &[u8], phase: Phase, work: &mut [u8])
+    requires { ⌜ Room 1 (now trace) start (now work) × Marked (now trace) (now marks) ⌝ }
     ensures { λ _. ⌜ Same (positions (now (trace .entry))) (bitAt (now (work .exit))) (λ p. not (isAt (now (trace .entry)) phase p)) ⌝ }
 {
-    rows::fill_mark(trace, lasso::phase_number(phase), work);
+    fill_phase(trace, marks, phase, work);
     turn(trace, start, work);
 }
 
 // The same in the first row alone; the second row stays.
-fn lack(trace: &[u8], start: usize, phase: Phase, work: &mut [u8])
-    requires { ⌜ Room 2 (now trace) start (now work) ⌝ }
+fn lack(trace: &[u8], start: usize, marks: &[u8], phase: Phase, work: &mut [u8])
+    requires { ⌜ Room 2 (now trace) start (now work) × Marked (now trace) (now marks) ⌝ }
     ensures { λ _. ⌜ Same (positions (now (trace .entry))) (bitAt (now (work .exit))) (λ p. not (isAt (now (trace .entry)) phase p))
         × (drop (rowOf (positions (now (trace .entry)))) (now (work .exit)) ≡ drop (rowOf (positions (now (trace .entry)))) (now (work .entry))) ⌝ }
 {
     let row = (trace.len() / 5 + 7) / 8;
-    fill_lacking(trace, start, phase, &mut work[0..row]);
+    fill_lacking(trace, start, marks, phase, &mut work[0..row]);
 }
 
 // The row at a position of the phase, and nowhere before it the other phase: (not other) U (phase and row).
-fn before(trace: &[u8], start: usize, other: Phase, phase: Phase, work: &mut [u8])
-    requires { ⌜ Room 2 (now trace) start (now work) ⌝ }
+fn before(trace: &[u8], start: usize, marks: &[u8], other: Phase, phase: Phase, work: &mut [u8])
+    requires { ⌜ Room 2 (now trace) start (now work) × Marked (now trace) (now marks) ⌝ }
     ensures { λ _. ⌜ Same (positions (now (trace .entry))) (bitAt (now (work .exit)))
         (rowed (traceOf (now (trace .entry)) start) .U (λ p. not (isAt (now (trace .entry)) other p)) (λ p. isAt (now (trace .entry)) phase p && bitAt (now (work .entry)) p)) ⌝ }
 {
     let row = (trace.len() / 5 + 7) / 8;
-    keep(trace, start, phase, work);
+    keep(trace, start, marks, phase, work);
     rows::copy_up(work, row);
-    lack(trace, start, other, work);
+    lack(trace, start, marks, other, work);
     until(trace, start, work);
 }
 
 // Up to the first position of the phase, that one too: (not phase) U (phase and row).
-fn reach(trace: &[u8], start: usize, phase: Phase, work: &mut [u8])
-    requires { ⌜ Room 2 (now trace) start (now work) ⌝ }
+fn reach(trace: &[u8], start: usize, marks: &[u8], phase: Phase, work: &mut [u8])
+    requires { ⌜ Room 2 (now trace) start (now work) × Marked (now trace) (now marks) ⌝ }
     ensures { λ _. ⌜ Same (positions (now (trace .entry))) (bitAt (now (work .exit)))
         (reachOf (traceOf (now (trace .entry)) start) phase (bitAt (now (work .entry)))) ⌝ }
 {
-    before(trace, start, phase, phase, work);
+    before(trace, start, marks, phase, phase, work);
 }
 
 // The row at the second position of a sequence, whose first is the nearest of one phase, and whose second the nearest of the other after it.
-fn second_of_sequence(trace: &[u8], start: usize, first: Phase, second: Phase, work: &mut [u8])
-    requires { ⌜ Room 2 (now trace) start (now work) ⌝ }
+fn second_of_sequence(
+    trace: &[u8],
+    start: usize,
+    marks: &[u8],
+    first: Phase,
+    second: Phase,
+    work: &mut [u8],
+)
+    requires { ⌜ Room 2 (now trace) start (now work) × Marked (now trace) (now marks) ⌝ }
     ensures { λ _. ⌜ Same (positions (now (trace .entry))) (bitAt (now (work .exit)))
         (reachOf (traceOf (now (trace .entry)) start) first
         (rowed (traceOf (now (trace .entry)) start) .X (reachOf (traceOf (now (trace .entry)) start) second (bitAt (now (work .entry)))))) ⌝ }
 {
-    reach(trace, start, second, work);
+    reach(trace, start, marks, second, work);
     next(trace, start, work);
-    reach(trace, start, first, work);
+    reach(trace, start, marks, first, work);
 }
 
-fn next_in(family: Family, trace: &[u8], start: usize, work: &mut [u8])
-    requires { ⌜ Room 2 (now trace) start (now work) ⌝ }
+fn next_in(family: Family, trace: &[u8], start: usize, marks: &[u8], work: &mut [u8])
+    requires { ⌜ Room 2 (now trace) start (now work) × Marked (now trace) (now marks) ⌝ }
     ensures { λ _. ⌜ Same (positions (now (trace .entry))) (bitAt (now (work .exit))) (nextOf (traceOf (now (trace .entry)) start) family (bitAt (now (work .entry)))) ⌝ }
 {
     match family {
@@ -155,26 +182,26 @@ fn next_in(family: Family, trace: &[u8], start: usize, work: &mut [u8])
             next(trace, start, work);
         }
         Family::Within => {
-            keep(trace, start, Phase::Exe, work);
+            keep(trace, start, marks, Phase::Exe, work);
             next(trace, start, work);
         }
         Family::Each(end) => {
             let phase = phase_of(end);
-            second_of_sequence(trace, start, phase, phase, work);
+            second_of_sequence(trace, start, marks, phase, phase, work);
         }
     }
 }
 
 // F^e: (not Output) U (Exe and row).
-fn ever_within(trace: &[u8], start: usize, work: &mut [u8])
-    requires { ⌜ Room 2 (now trace) start (now work) ⌝ }
+fn ever_within(trace: &[u8], start: usize, marks: &[u8], work: &mut [u8])
+    requires { ⌜ Room 2 (now trace) start (now work) × Marked (now trace) (now marks) ⌝ }
     ensures { λ _. ⌜ Same (positions (now (trace .entry))) (bitAt (now (work .exit))) (everOf (traceOf (now (trace .entry)) start) within (bitAt (now (work .entry)))) ⌝ }
 {
-    before(trace, start, Phase::Output, Phase::Exe, work);
+    before(trace, start, marks, Phase::Output, Phase::Exe, work);
 }
 
-fn ever_in(family: Family, trace: &[u8], start: usize, work: &mut [u8])
-    requires { ⌜ Room 2 (now trace) start (now work) ⌝ }
+fn ever_in(family: Family, trace: &[u8], start: usize, marks: &[u8], work: &mut [u8])
+    requires { ⌜ Room 2 (now trace) start (now work) × Marked (now trace) (now marks) ⌝ }
     ensures { λ _. ⌜ Same (positions (now (trace .entry))) (bitAt (now (work .exit))) (everOf (traceOf (now (trace .entry)) start) family (bitAt (now (work .entry)))) ⌝ }
 {
     match family {
@@ -182,37 +209,37 @@ fn ever_in(family: Family, trace: &[u8], start: usize, work: &mut [u8])
             ever(trace, start, work);
         }
         Family::Within => {
-            ever_within(trace, start, work);
+            ever_within(trace, start, marks, work);
         }
         Family::Each(end) => {
-            keep(trace, start, phase_of(end), work);
+            keep(trace, start, marks, phase_of(end), work);
             ever(trace, start, work);
         }
     }
 }
 
 // The row of a phase as the second row; the first row stays.
-fn fill_second(trace: &[u8], start: usize, phase: Phase, work: &mut [u8])
-    requires { ⌜ Room 2 (now trace) start (now work) ⌝ }
+fn fill_second(trace: &[u8], start: usize, marks: &[u8], phase: Phase, work: &mut [u8])
+    requires { ⌜ Room 2 (now trace) start (now work) × Marked (now trace) (now marks) ⌝ }
     ensures { λ _. ⌜ Same (positions (now (trace .entry))) (bitAt (now (work .exit))) (bitAt (now (work .entry)))
         × Same (positions (now (trace .entry))) (bitAt (drop (rowOf (positions (now (trace .entry)))) (now (work .exit)))) (isAt (now (trace .entry)) phase) ⌝ }
 {
     let row = (trace.len() / 5 + 7) / 8;
-    rows::fill_mark(trace, lasso::phase_number(phase), &mut work[row..]);
+    fill_phase(trace, marks, phase, &mut work[row..]);
 }
 
 // G^e: (row and Exe) U Output.
-fn always_within(trace: &[u8], start: usize, work: &mut [u8])
-    requires { ⌜ Room 2 (now trace) start (now work) ⌝ }
+fn always_within(trace: &[u8], start: usize, marks: &[u8], work: &mut [u8])
+    requires { ⌜ Room 2 (now trace) start (now work) × Marked (now trace) (now marks) ⌝ }
     ensures { λ _. ⌜ Same (positions (now (trace .entry))) (bitAt (now (work .exit))) (alwaysOf (traceOf (now (trace .entry)) start) within (bitAt (now (work .entry)))) ⌝ }
 {
-    keep(trace, start, Phase::Exe, work);
-    fill_second(trace, start, Phase::Output, work);
+    keep(trace, start, marks, Phase::Exe, work);
+    fill_second(trace, start, marks, Phase::Output, work);
     until(trace, start, work);
 }
 
-fn always_in(family: Family, trace: &[u8], start: usize, work: &mut [u8])
-    requires { ⌜ Room 2 (now trace) start (now work) ⌝ }
+fn always_in(family: Family, trace: &[u8], start: usize, marks: &[u8], work: &mut [u8])
+    requires { ⌜ Room 2 (now trace) start (now work) × Marked (now trace) (now marks) ⌝ }
     ensures { λ _. ⌜ Same (positions (now (trace .entry))) (bitAt (now (work .exit))) (alwaysOf (traceOf (now (trace .entry)) start) family (bitAt (now (work .entry)))) ⌝ }
 {
     match family {
@@ -220,18 +247,18 @@ fn always_in(family: Family, trace: &[u8], start: usize, work: &mut [u8])
             always(trace, start, work);
         }
         Family::Within => {
-            always_within(trace, start, work);
+            always_within(trace, start, marks, work);
         }
         Family::Each(end) => {
-            imply(trace, start, phase_of(end), work);
+            imply(trace, start, marks, phase_of(end), work);
             always(trace, start, work);
         }
     }
 }
 
 // An operator over one operand.
-pub fn apply_one(operator: One, trace: &[u8], start: usize, work: &mut [u8])
-    requires { ⌜ Room 2 (now trace) start (now work) ⌝ }
+pub fn apply_one(operator: One, trace: &[u8], start: usize, marks: &[u8], work: &mut [u8])
+    requires { ⌜ Room 2 (now trace) start (now work) × Marked (now trace) (now marks) ⌝ }
     ensures { λ _. ⌜ Same (positions (now (trace .entry))) (bitAt (now (work .exit))) (oneOf (traceOf (now (trace .entry)) start) operator (bitAt (now (work .entry)))) ⌝ }
 {
     match operator {
@@ -239,56 +266,56 @@ pub fn apply_one(operator: One, trace: &[u8], start: usize, work: &mut [u8])
             turn(trace, start, work);
         }
         One::Next(family) => {
-            next_in(family, trace, start, work);
+            next_in(family, trace, start, marks, work);
         }
         One::Ever(family) => {
-            ever_in(family, trace, start, work);
+            ever_in(family, trace, start, marks, work);
         }
         One::Always(family) => {
-            always_in(family, trace, start, work);
+            always_in(family, trace, start, marks, work);
         }
     }
 }
 
 // The second row where the phase is this one; the first row stays.
-fn keep_second(trace: &[u8], start: usize, phase: Phase, work: &mut [u8])
-    requires { ⌜ Room 2 (now trace) start (now work) ⌝ }
+fn keep_second(trace: &[u8], start: usize, marks: &[u8], phase: Phase, work: &mut [u8])
+    requires { ⌜ Room 2 (now trace) start (now work) × Marked (now trace) (now marks) ⌝ }
     ensures { λ _. ⌜ Same (positions (now (trace .entry))) (bitAt (now (work .exit))) (bitAt (now (work .entry)))
         × Same (positions (now (trace .entry))) (bitAt (drop (rowOf (positions (now (trace .entry)))) (now (work .exit))))
         (λ p. bitAt (drop (rowOf (positions (now (trace .entry)))) (now (work .entry))) p && isAt (now (trace .entry)) phase p) ⌝ }
 {
     let row = (trace.len() / 5 + 7) / 8;
-    keep(trace, start, phase, &mut work[row..]);
+    keep(trace, start, marks, phase, &mut work[row..]);
 }
 
 // U^e: (first and Exe) U (second and Exe).
-fn until_within(trace: &[u8], start: usize, work: &mut [u8])
-    requires { ⌜ Room 2 (now trace) start (now work) ⌝ }
+fn until_within(trace: &[u8], start: usize, marks: &[u8], work: &mut [u8])
+    requires { ⌜ Room 2 (now trace) start (now work) × Marked (now trace) (now marks) ⌝ }
     ensures { λ _. ⌜ Same (positions (now (trace .entry))) (bitAt (now (work .exit)))
         (untilOf (traceOf (now (trace .entry)) start) within (bitAt (now (work .entry))) (bitAt (drop (rowOf (positions (now (trace .entry)))) (now (work .entry))))) ⌝ }
 {
     let row = (trace.len() / 5 + 7) / 8;
-    keep(trace, start, Phase::Exe, &mut work[0..row]);
-    keep_second(trace, start, Phase::Exe, work);
+    keep(trace, start, marks, Phase::Exe, &mut work[0..row]);
+    keep_second(trace, start, marks, Phase::Exe, work);
     until(trace, start, work);
 }
 
 // U at the positions of a phase: (phase implies first) U (phase and second).
-fn until_each(trace: &[u8], start: usize, phase: Phase, work: &mut [u8])
-    requires { ⌜ Room 2 (now trace) start (now work) ⌝ }
+fn until_each(trace: &[u8], start: usize, marks: &[u8], phase: Phase, work: &mut [u8])
+    requires { ⌜ Room 2 (now trace) start (now work) × Marked (now trace) (now marks) ⌝ }
     ensures { λ _. ⌜ Same (positions (now (trace .entry))) (bitAt (now (work .exit)))
         (rowed (traceOf (now (trace .entry)) start) .U
         (implies (rowed (traceOf (now (trace .entry)) start)) (isAt (now (trace .entry)) phase) (bitAt (now (work .entry))))
         (λ p. isAt (now (trace .entry)) phase p && bitAt (drop (rowOf (positions (now (trace .entry)))) (now (work .entry))) p)) ⌝ }
 {
     let row = (trace.len() / 5 + 7) / 8;
-    imply(trace, start, phase, &mut work[0..row]);
-    keep_second(trace, start, phase, work);
+    imply(trace, start, marks, phase, &mut work[0..row]);
+    keep_second(trace, start, marks, phase, work);
     until(trace, start, work);
 }
 
-fn until_in(family: Family, trace: &[u8], start: usize, work: &mut [u8])
-    requires { ⌜ Room 2 (now trace) start (now work) ⌝ }
+fn until_in(family: Family, trace: &[u8], start: usize, marks: &[u8], work: &mut [u8])
+    requires { ⌜ Room 2 (now trace) start (now work) × Marked (now trace) (now marks) ⌝ }
     ensures { λ _. ⌜ Same (positions (now (trace .entry))) (bitAt (now (work .exit)))
         (untilOf (traceOf (now (trace .entry)) start) family (bitAt (now (work .entry))) (bitAt (drop (rowOf (positions (now (trace .entry)))) (now (work .entry))))) ⌝ }
 {
@@ -297,17 +324,17 @@ fn until_in(family: Family, trace: &[u8], start: usize, work: &mut [u8])
             until(trace, start, work);
         }
         Family::Within => {
-            until_within(trace, start, work);
+            until_within(trace, start, marks, work);
         }
         Family::Each(end) => {
-            until_each(trace, start, phase_of(end), work);
+            until_each(trace, start, marks, phase_of(end), work);
         }
     }
 }
 
 // An operator over two operands.
-pub fn apply_two(operator: Two, trace: &[u8], start: usize, work: &mut [u8])
-    requires { ⌜ Room 2 (now trace) start (now work) ⌝ }
+pub fn apply_two(operator: Two, trace: &[u8], start: usize, marks: &[u8], work: &mut [u8])
+    requires { ⌜ Room 2 (now trace) start (now work) × Marked (now trace) (now marks) ⌝ }
     ensures { λ _. ⌜ Same (positions (now (trace .entry))) (bitAt (now (work .exit)))
         (twoOf (traceOf (now (trace .entry)) start) operator (bitAt (now (work .entry))) (bitAt (drop (rowOf (positions (now (trace .entry)))) (now (work .entry))))) ⌝ }
 {
@@ -317,7 +344,7 @@ pub fn apply_two(operator: Two, trace: &[u8], start: usize, work: &mut [u8])
             rows::and_rows(work, row);
         }
         Two::Until(family) => {
-            until_in(family, trace, start, work);
+            until_in(family, trace, start, marks, work);
         }
     }
 }

@@ -7,10 +7,14 @@ ghost use lib.Bits.{bitOr};
 ghost use Rattle.meaning.specs.Rows.{walk};
 ghost use Rattle.bits.specs.Bits.{bitB, putB, bitAt, digit};
 ghost use Rattle.bits.specs.Rows.{rowOf, afterOf, untilOn, untilB, carryB, Padded, Packs, wordAt, putWord, carryW, Stepped};
-ghost use Rattle.lasso.specs.Bytes.{positions, atomB, markB};
+ghost use Rattle.lasso.specs.Bytes.{positions, phaseByte, atomB};
+ghost use Rattle.judge.specs.Working.{row4096, digitIn, Marked};
+
+// The bytes of a row of 4,096 positions, the most there are.
+pub const ROW: usize = 512;
 
 // Digit k of x is set.
-fn bit(x: u8, k: usize) -> bool
+pub fn bit(x: u8, k: usize) -> bool
     requires { ⌜ k < 8 ⌝ }
     ensures { λ r. ⌜ r ≡ bitB x k ⌝ }
 {
@@ -281,14 +285,13 @@ fn placed(x: u32, c: usize) -> u8
     y as u8
 }
 
-// The bits of an atom at c positions from p on, the first of them the highest digit.
-fn atom_byte(trace: &[u8], a: usize, p: usize, c: usize) -> u8
-    requires { ⌜ (a < 32) × (c ≤ 8) × (p + c ≤ positions (now trace)) × (positions (now trace) ≤ 4096) ⌝ }
-    ensures { λ r. ⌜ Packs (atomB (now (trace .entry)) a) p c r ⌝ }
+// Digit k of one of a position's five bytes at c positions from p on, the first of them the highest digit.
+fn digit_byte(trace: &[u8], column: usize, k: usize, p: usize, c: usize) -> u8
+    requires { ⌜ (column < 5) × (k < 8) × (c ≤ 8) × (p + c ≤ positions (now trace)) × (positions (now trace) ≤ 4096) ⌝ }
+    ensures { λ r. ⌜ Packs (digitIn (now (trace .entry)) column k) p c r ⌝ }
 {
-    let k = a % 8;
     let m = 1u8 << k;
-    let mut at = p * 5 + 1 + a / 8;
+    let mut at = p * 5 + column;
     let mut acc = 0u32;
     let mut j = 0;
     while j < c {
@@ -300,57 +303,77 @@ fn atom_byte(trace: &[u8], a: usize, p: usize, c: usize) -> u8
     placed(acc >> k, c)
 }
 
+// The row of digit k of one of a position's five bytes.
+fn fill_digit(trace: &[u8], column: usize, k: usize, work: &mut [u8])
+    requires { ⌜ (column < 5) × (k < 8) × (positions (now trace) ≤ 4096) × (rowOf (positions (now trace)) ≤ length (now work)) ⌝ }
+    ensures { λ _. ⌜ ((p : ℕ) → p < positions (now (trace .entry)) → bitAt (now (work .exit)) p ≡ digitIn (now (trace .entry)) column k p) ⌝ }
+{
+    let n = trace.len() / 5;
+    let full = n / 8;
+    let mut i = 0;
+    while i < full {
+        work[i] = digit_byte(trace, column, k, 8 * i, 8);
+        i += 1;
+    }
+    let c = n % 8;
+    if 0 < c {
+        work[i] = digit_byte(trace, column, k, 8 * i, c);
+    }
+}
+
 // The row of an atom.
 pub fn fill_atom(trace: &[u8], a: usize, work: &mut [u8])
     requires { ⌜ (a < 32) × (positions (now trace) ≤ 4096) × (rowOf (positions (now trace)) ≤ length (now work)) ⌝ }
     ensures { λ _. ⌜ ((p : ℕ) → p < positions (now (trace .entry)) → bitAt (now (work .exit)) p ≡ atomB (now (trace .entry)) a p) ⌝ }
 {
-    let n = trace.len() / 5;
-    let full = n / 8;
+    fill_digit(trace, 1 + a / 8, a % 8, work);
+}
+
+// The first row becomes what neither of the two behind it has.
+fn fill_neither(marks: &mut [u8])
+    requires { ⌜ length (now marks) ≡ 3 * row4096 ⌝ }
+    ensures { λ _. ⌜ ((p : ℕ) → p < 8 * row4096 → bitAt (now (marks .exit)) p
+        ≡ not (bitAt (drop row4096 (now (marks .entry))) p || bitAt (drop (2 * row4096) (now (marks .entry))) p))
+        × (drop row4096 (now (marks .exit)) ≡ drop row4096 (now (marks .entry))) ⌝ }
+{
     let mut i = 0;
-    while i < full {
-        work[i] = atom_byte(trace, a, 8 * i, 8);
+    while i < ROW {
+        marks[i] = 255 - (marks[ROW + i] | marks[2 * ROW + i]);
         i += 1;
-    }
-    let c = n % 8;
-    if 0 < c {
-        work[i] = atom_byte(trace, a, 8 * i, c);
     }
 }
 
-// Where a mark stands at c positions from p on, the first of them the highest digit.
-pub fn mark_byte(trace: &[u8], m: u8, p: usize, c: usize) -> u8
-    requires { ⌜ (c ≤ 8) × (p + c ≤ positions (now trace)) × (positions (now trace) ≤ 4096) ⌝ }
-    ensures { λ r. ⌜ Packs (markB (now (trace .entry)) m) p c r ⌝ }
+// The rows of the phases of a trace whose phase bytes are 0, 1 and 2: their low digit is Exe, the next is Output, and Input has neither.
+pub fn fill_marks(trace: &[u8], marks: &mut [u8])
+    requires { ⌜ (positions (now trace) ≤ 4096) × ((p : ℕ) → p < positions (now trace) → phaseByte (now trace) p ≤ 2) × (length (now marks) ≡ 3 * row4096) ⌝ }
+    ensures { λ _. ⌜ Marked (now (trace .entry)) (now (marks .exit)) ⌝ }
 {
-    let mut at = p * 5;
-    let mut acc = 0u32;
-    let mut j = 0;
-    while j < c {
-        let x = trace[at];
-        let v = x == m;
-        acc = acc * 2 + v as u32;
-        at += 5;
-        j += 1;
-    }
-    placed(acc, c)
+    fill_digit(trace, 0, 0, &mut marks[ROW..2 * ROW]);
+    fill_digit(trace, 0, 1, &mut marks[2 * ROW..3 * ROW]);
+    fill_neither(marks);
 }
 
-// Each bit is kept where the mark stands, and cleared elsewhere.
-pub fn mask_row(trace: &[u8], m: u8, work: &mut [u8])
-    requires { ⌜ (positions (now trace) ≤ 4096) × (rowOf (positions (now trace)) ≤ length (now work)) ⌝ }
-    ensures { λ _. ⌜ ((p : ℕ) → p < positions (now (trace .entry)) → bitAt (now (work .exit)) p ≡ (bitAt (now (work .entry)) p && markB (now (trace .entry)) m p)) ⌝ }
+// Each bit of a row of n bytes is kept where another row has it, and cleared elsewhere.
+pub fn mask_row(mask: &[u8], work: &mut [u8], n: usize)
+    requires { ⌜ (n ≤ length (now mask)) × (n ≤ length (now work)) ⌝ }
+    ensures { λ _. ⌜ ((p : ℕ) → p < 8 * n → bitAt (now (work .exit)) p ≡ (bitAt (now (work .entry)) p && bitAt (now (mask .entry)) p)) ⌝ }
 {
-    let n = trace.len() / 5;
-    let full = n / 8;
     let mut i = 0;
-    while i < full {
-        work[i] = work[i] & mark_byte(trace, m, 8 * i, 8);
+    while i < n {
+        work[i] = work[i] & mask[i];
         i += 1;
     }
-    let c = n % 8;
-    if 0 < c {
-        work[i] = work[i] & mark_byte(trace, m, 8 * i, c);
+}
+
+// A row of n bytes copied.
+pub fn copy_row(from: &[u8], work: &mut [u8], n: usize)
+    requires { ⌜ (n ≤ length (now from)) × (n ≤ length (now work)) ⌝ }
+    ensures { λ _. ⌜ ((p : ℕ) → p < 8 * n → bitAt (now (work .exit)) p ≡ bitAt (now (from .entry)) p) ⌝ }
+{
+    let mut i = 0;
+    while i < n {
+        work[i] = from[i];
+        i += 1;
     }
 }
 
@@ -376,23 +399,4 @@ pub fn fill_row(work: &mut [u8], n: usize)
         work[i] = 255;
         i += 1;
     }
-}
-
-// The row of a mark.
-pub fn fill_mark(trace: &[u8], m: u8, work: &mut [u8])
-    requires { ⌜ (positions (now trace) ≤ 4096) × (rowOf (positions (now trace)) ≤ length (now work)) ⌝ }
-    ensures { λ _. ⌜ ((p : ℕ) → p < positions (now (trace .entry)) → bitAt (now (work .exit)) p ≡ markB (now (trace .entry)) m p) ⌝ }
-{
-    let n = trace.len() / 5;
-    fill_row(work, (n + 7) / 8);
-    mask_row(trace, m, work);
-}
-
-// Position p of a row.
-pub fn bit_of(row: &[u8], p: usize) -> bool
-    requires { ⌜ p < 8 * length (now row) ⌝ }
-    ensures { λ r. ⌜ r ≡ bitAt (now (row .entry)) p ⌝ }
-{
-    let x = row[p / 8];
-    bit(x, 7 - p % 8)
 }

@@ -8,7 +8,7 @@ use requirement::One;
 use requirement::Two;
 ghost use Prim.Native.Nat.{suc};
 ghost use Rattle.requirement.specs.Walking.{walkAt, overOne, overTwo};
-ghost use Rattle.judge.specs.Working.{Room, Rowed};
+ghost use Rattle.judge.specs.Working.{Room, Marked, Rowed};
 
 // The row of the node whose code begins at `at`, in the first row of `work`. The place after its code.
 pub fn judge_node(
@@ -18,9 +18,10 @@ pub fn judge_node(
     depth: u16,
     trace: &[u8],
     start: usize,
+    marks: &[u8],
     work: &mut [u8],
 ) -> usize
-    requires { ⌜ Room depth (now trace) start (now work) ⌝ }
+    requires { ⌜ Room depth (now trace) start (now work) × Marked (now trace) (now marks) ⌝ }
     ensures { λ r. ⌜ Rowed (walkAt kind depth (now (code .entry)) at) (now (trace .entry)) start (now (work .exit)) r ⌝ }
 {
     if depth == 0 {
@@ -35,7 +36,7 @@ pub fn judge_node(
                 next
             }
             Node::Mark(mark) => {
-                rows::fill_mark(trace, lasso::phase_number(mark), work);
+                operators::fill_phase(trace, marks, mark, work);
                 next
             }
             Node::OverOne(operator) => judge_one(
@@ -46,6 +47,7 @@ pub fn judge_node(
                 below,
                 trace,
                 start,
+                marks,
                 work,
             ),
             Node::OverTwo(operator) => judge_two(
@@ -56,6 +58,7 @@ pub fn judge_node(
                 below,
                 trace,
                 start,
+                marks,
                 work,
             ),
         },
@@ -71,16 +74,17 @@ fn judge_one(
     depth: u16,
     trace: &[u8],
     start: usize,
+    marks: &[u8],
     work: &mut [u8],
 ) -> usize
-    requires { ⌜ Room (suc depth) (now trace) start (now work) ⌝ }
+    requires { ⌜ Room (suc depth) (now trace) start (now work) × Marked (now trace) (now marks) ⌝ }
     ensures { λ r. ⌜ Rowed (overOne operator (walkAt kind depth (now (code .entry)) at)) (now (trace .entry)) start (now (work .exit)) r ⌝ }
 {
     if depth == 0 {
         return at;
     }
-    let next = judge_node(kind, code, at, depth, trace, start, work);
-    operators::apply_one(operator, trace, start, work);
+    let next = judge_node(kind, code, at, depth, trace, start, marks, work);
+    operators::apply_one(operator, trace, start, marks, work);
     next
 }
 
@@ -93,9 +97,10 @@ fn judge_two(
     depth: u16,
     trace: &[u8],
     start: usize,
+    marks: &[u8],
     work: &mut [u8],
 ) -> usize
-    requires { ⌜ Room (suc depth) (now trace) start (now work) ⌝ }
+    requires { ⌜ Room (suc depth) (now trace) start (now work) × Marked (now trace) (now marks) ⌝ }
     ensures { λ r. ⌜ Rowed (overTwo operator (λ next. walkAt kind depth (now (code .entry)) next) (walkAt kind depth (now (code .entry)) at))
         (now (trace .entry)) start (now (work .exit)) r ⌝ }
 {
@@ -103,8 +108,17 @@ fn judge_two(
         return at;
     }
     let row = (trace.len() / 5 + 7) / 8;
-    let second = judge_node(kind, code, at, depth, trace, start, work);
-    let next = judge_node(kind, code, second, depth, trace, start, &mut work[row..]);
-    operators::apply_two(operator, trace, start, work);
+    let second = judge_node(kind, code, at, depth, trace, start, marks, work);
+    let next = judge_node(
+        kind,
+        code,
+        second,
+        depth,
+        trace,
+        start,
+        marks,
+        &mut work[row..],
+    );
+    operators::apply_two(operator, trace, start, marks, work);
     next
 }

@@ -1,47 +1,44 @@
-use Prim.Native.Nat.{_-_}
+use Prim.Native.Nat.{_+_, _-_, _*_}
 use native.Mathlib.Omega.{arith}
-use mathlib.Core.Path.{sym, _∙_}
+use mathlib.Core.Path.{_≡_}
 use mathlib.Core.Logic.{⊎-elim}
+use lib.ListN.{length}
 use Rattle.bits.specs.Bits.{bitAt}
-use Rattle.judge.proofs.Listing.{Listing, listing-none, listing-skip, listing-put, listing-done}
+use Rattle.judge.specs.Working.{Listing}
+use Rattle.judge.proofs.Listing.{listing-none, listing-zero, listing-done}
 use borrow.Author.Needs.{needs}
 use Rattle.judge.proofs.findings.list_row.Statement.{statement}
 use Rattle.judge.proofs.findings.list_row.Tie as tie
 use Rattle.judge.proofs.findings.list_row.Reads as reads
 use Rattle.judge.proofs.findings.list_row.Lts as lts
-use Rattle.judge.proofs.findings.put_position.Reads as put-position-reads
-use Rattle.judge.proofs.rows.bit_of.Reads as bit-of-reads
+use Rattle.judge.proofs.findings.list_byte.Reads as list-byte-reads
 
 abbrev Inv-loop : tie.InvT-loop
-Inv-loop row list₀ n at₀ p₀ list at p = Listing (bitAt row) n list₀ at p list
+Inv-loop row list₀ at₀ i₀ list at i = Listing (bitAt row) (8 * length row) list₀ at (8 * i) list
 
 abbrev μ-loop : tie.MeasureT-loop
-μ-loop row list₀ n at₀ p₀ list at p = n - p
-
-mul-n : tie.Need-mul-n Inv-loop μ-loop
-mul-n c = search needs
+μ-loop row list₀ at₀ i₀ list at i = length row - i
 
 loop-holds : tie.Need-loop-holds Inv-loop μ-loop
 loop-holds c = listing-none _ _ _ (c .before .before .pre .1)
 
-bit-of-requires : tie.Need-bit-of-requires Inv-loop μ-loop
-bit-of-requires c κs = search needs
+shared-slice-read-if1 : tie.Need-shared-slice-read-if1 Inv-loop μ-loop
+shared-slice-read-if1 c = search needs
 
-put-position-requires : tie.Need-put-position-requires Inv-loop μ-loop
-put-position-requires c κs = search needs
+list-byte-requires : tie.Need-list-byte-requires Inv-loop μ-loop
+list-byte-requires c κs = (omega arith, omega arith, omega (arith, c .before .before .before .before .loop .inv .room))
 
-add-p : tie.Need-add-p Inv-loop μ-loop
-add-p c = search needs
+add-i : tie.Need-add-i Inv-loop μ-loop
+add-i c = search needs
 
 loop-less : tie.Need-loop-less Inv-loop μ-loop
 loop-less c = search needs
 
 loop-again : tie.Need-loop-again Inv-loop μ-loop
 loop-again c =
-    let h = c .before .before .before .loop .inv in
-    let e = sym (c .before .bit-of .ensures) in
-    ⊎-elim (λ w. rw (w .5, w .6) (listing-put h (omega arith) (e ∙ w .0 .taken) _ _ (w .2 .ensures)))
-    (λ w. rw (w .1, w .2) (listing-skip h (omega arith) (e ∙ w .0 .left)))
+    let l = c .before .before .before .loop in
+    let q : 8 * (l .i + 1) ≡ 8 * l .i + 8 = omega arith in
+    ⊎-elim (λ w. rw (w .5, w .6, q) (w .2 .ensures _ _ (omega arith) (l .inv))) (λ w. rw (w .1, w .2, q) (listing-zero _ _ (l .inv) (omega arith) (w .0 .left)))
     (c .if1 .came)
 
 same-length : tie.Need-same-length Inv-loop μ-loop
@@ -56,11 +53,10 @@ list-row-spec =
     (tie.spec
     Inv-loop
     μ-loop
-    mul-n
     loop-holds
-    bit-of-requires
-    put-position-requires
-    add-p
+    shared-slice-read-if1
+    list-byte-requires
+    add-i
     loop-less
     loop-again
     same-length

@@ -20,7 +20,7 @@ enum-known-operator : tie.Need-enum-known-operator
 enum-known-operator c = search needs
 
 until-in-requires : tie.Need-until-in-requires
-until-in-requires c κs = c .before .before .before .before .before .before .pre
+until-in-requires c κs = c .before .before .before .before .before .before .before .pre
 
 same-length : tie.Need-same-length
 same-length c = c .before .before .and-rows .kept .0
@@ -29,7 +29,7 @@ returns : tie.Need-returns
 returns c = rw (c .before .before .before .before .enum-told .given .1) (λ p h. c .before .before .and-rows .ensures p (omega arith))
 
 same-length-2 : tie.Need-same-length-2
-same-length-2 c = c .before .before .until-in .kept .1 .1 .1 .0
+same-length-2 c = c .before .before .until-in .kept .1 .1 .1 .1 .0
 
 returns-2 : tie.Need-returns-2
 returns-2 c = rw (c .before .before .before .before .before .operator .given .1) (c .before .before .until-in .ensures)

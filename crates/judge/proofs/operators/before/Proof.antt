@@ -15,23 +15,23 @@ add-row : tie.Need-add-row
 add-row c = search needs
 
 keep-requires : tie.Need-keep-requires
-keep-requires c κs = one-row (c .before .before .before .pre) refl
+keep-requires c κs = (one-row (c .before .before .before .before .pre .0) refl, c .before .before .before .before .pre .1)
 
 copy-up-requires : tie.Need-copy-up-requires
 copy-up-requires c κs = search needs
 
 lack-requires : tie.Need-lack-requires
-lack-requires c κs = as-long (c .before .before .before .before .before .before .before .before .before .before .before .pre) (c .before .before .before .copy-up .kept .0 ∙ c .before .before .before .before .before .before .before .keep .kept .1 .1 .1 .0)
+lack-requires c κs = (as-long (c .before .before .before .before .before .before .before .before .before .before .before .before .pre .0) (c .before .before .before .copy-up .kept .0 ∙ c .before .before .before .before .before .before .before .keep .kept .1 .1 .1 .1 .0), c .before .before .before .before .before .before .before .before .before .before .before .before .pre .1)
 
 until-requires : tie.Need-until-requires
-until-requires c κs = as-long (c .before .before .before .before .before .before .before .before .before .before .before .before .before .before .before .pre) (c .before .before .before .lack .kept .1 .1 .1 .0 ∙ c .before .before .before .before .before .before .before .copy-up .kept .0 ∙ c .before .before .before .before .before .before .before .before .before .before .before .keep .kept .1 .1 .1 .0)
+until-requires c κs = as-long (c .before .before .before .before .before .before .before .before .before .before .before .before .before .before .before .before .pre .0) (c .before .before .before .lack .kept .1 .1 .1 .1 .0 ∙ c .before .before .before .before .before .before .before .copy-up .kept .0 ∙ c .before .before .before .before .before .before .before .before .before .before .before .keep .kept .1 .1 .1 .1 .0)
 
 same-length : tie.Need-same-length
-same-length c = c .before .before .until .kept .1 .1 .0 ∙ c .before .before .before .before .before .before .lack .kept .1 .1 .1 .0 ∙ c .before .before .before .before .before .before .before .before .before .before .copy-up .kept .0 ∙ c .before .before .before .before .before .before .before .before .before .before .before .before .before .before .keep .kept .1 .1 .1 .0
+same-length c = c .before .before .until .kept .1 .1 .0 ∙ c .before .before .before .before .before .before .lack .kept .1 .1 .1 .1 .0 ∙ c .before .before .before .before .before .before .before .before .before .before .copy-up .kept .0 ∙ c .before .before .before .before .before .before .before .before .before .before .before .before .before .before .keep .kept .1 .1 .1 .1 .0
 
 returns : tie.Need-returns
-returns c = let a = c .before .before .before .before .before .before .before .before .before .before .before .before .before .before .before .before .before .before .args in
-    until-of (c .before .before .before .before .before .before .before .before .before .before .before .before .before .before .before .before .before .before .pre) (c .before .before .until .ensures) (c .before .before .before .before .before .before .lack .ensures .0)
+returns c = let a = c .before .before .before .before .before .before .before .before .before .before .before .before .before .before .before .before .before .before .before .args in
+    until-of (c .before .before .before .before .before .before .before .before .before .before .before .before .before .before .before .before .before .before .before .pre .0) (c .before .before .until .ensures) (c .before .before .before .before .before .before .lack .ensures .0)
     (λ q l. rw (c .before .before .before .before .before .before .lack .ensures .1) (c .before .before .before .before .before .before .before .before .before .before .copy-up .ensures q (omega arith) .0 ∙ c .before .before .before .before .before .before .before .before .before .before .before .before .before .before .keep .ensures q l ∙ kept a.trace.now a.phase a.work.now q))
 
 pub before-spec : {M : Type 1} → statement M

@@ -1,47 +1,41 @@
-use mathlib.Core.Path.{_∙_}
-use Rattle.judge.proofs.Composing.{mark-is, row-fits, second-length, second-back}
+use native.Mathlib.Omega.{arith}
+use Rattle.judge.proofs.Composing.{row-fits, second-room, second-length, second-back}
 use borrow.Author.Needs.{needs}
 use Rattle.judge.proofs.operators.fill_second.Statement.{statement}
 use Rattle.judge.proofs.operators.fill_second.Tie as tie
 use Rattle.judge.proofs.operators.fill_second.Reads as reads
 use Rattle.judge.proofs.operators.fill_second.Lts as lts
-use Rattle.lasso.proofs.phase_number.Reads as phase-number-reads
-use Rattle.judge.proofs.rows.fill_mark.Reads as fill-mark-reads
+use Rattle.judge.proofs.operators.fill_phase.Reads as fill-phase-reads
 
 add-row : tie.Need-add-row
 add-row c = search needs
 
-phase-number-requires : tie.Need-phase-number-requires
-phase-number-requires c κs = search needs
+sub-fill-phase : tie.Need-sub-fill-phase
+sub-fill-phase c = search needs
 
-sub-fill-mark : tie.Need-sub-fill-mark
-sub-fill-mark c = search needs
+part-fill-phase-start : tie.Need-part-fill-phase-start
+part-fill-phase-start c = row-fits (c .before .before .before .pre .0)
 
-part-fill-mark-start : tie.Need-part-fill-mark-start
-part-fill-mark-start c = row-fits (c .before .before .before .pre)
+part-fill-phase-end : tie.Need-part-fill-phase-end
+part-fill-phase-end c = search needs
 
-part-fill-mark-end : tie.Need-part-fill-mark-end
-part-fill-mark-end c = search needs
-
-fill-mark-requires : tie.Need-fill-mark-requires
-fill-mark-requires c κs = search needs
+fill-phase-requires : tie.Need-fill-phase-requires
+fill-phase-requires c κs = (c .before .before .before .before .pre .1, omega (arith, second-room (c .before .before .before .before .pre .0) .room), c .before .before .before .before .pre .0 .few)
 
 same-length : tie.Need-same-length
-same-length c = second-length (c .before .before .before .before .before .before .before .pre) (c .before .before .fill-mark .last .1 .1 .0) (c .before .before .fill-mark .kept .1 .1 .0)
+same-length c = second-length (c .before .before .before .before .before .before .before .pre .0) (c .before .before .fill-phase .last .1 .1 .1 .0) (c .before .before .fill-phase .kept .1 .1 .1 .0)
 
 returns : tie.Need-returns
-returns c = let h = c .before .before .before .before .before .before .before .pre in
-    second-back h _ _ (c .before .before .fill-mark .kept .1 .1 .0) (λ p l. c .before .before .fill-mark .ensures p l ∙ mark-is h _ _ (c .before .before .before .before .phase-number .ensures) p l)
+returns c = second-back (c .before .before .before .before .before .before .before .pre .0) _ _ (c .before .before .fill-phase .kept .1 .1 .1 .0) (c .before .before .fill-phase .ensures)
 
 pub fill-second-spec : {M : Type 1} → statement M
 fill-second-spec =
     tie.close
     (tie.spec
     add-row
-    phase-number-requires
-    sub-fill-mark
-    part-fill-mark-start
-    part-fill-mark-end
-    fill-mark-requires
+    sub-fill-phase
+    part-fill-phase-start
+    part-fill-phase-end
+    fill-phase-requires
     same-length
     returns)

@@ -16,21 +16,21 @@ sub-keep : tie.Need-sub-keep
 sub-keep c = search needs
 
 part-keep-start : tie.Need-part-keep-start
-part-keep-start c = row-fits (c .before .before .pre)
+part-keep-start c = row-fits (c .before .before .before .pre .0)
 
 part-keep-end : tie.Need-part-keep-end
 part-keep-end c = search needs
 
 keep-requires : tie.Need-keep-requires
-keep-requires c κs = second-room (c .before .before .before .pre)
+keep-requires c κs = (second-room (c .before .before .before .before .pre .0), c .before .before .before .before .pre .1)
 
 same-length : tie.Need-same-length
-same-length c = second-length (c .before .before .before .before .before .before .pre) (c .before .before .keep .last .1 .1 .1 .0) (c .before .before .keep .kept .1 .1 .1 .0)
+same-length c = second-length (c .before .before .before .before .before .before .before .pre .0) (c .before .before .keep .last .1 .1 .1 .1 .0) (c .before .before .keep .kept .1 .1 .1 .1 .0)
 
 returns : tie.Need-returns
-returns c = let a = c .before .before .before .before .before .before .args in
-    let h = c .before .before .before .before .before .before .pre in
-    second-back h _ _ (c .before .before .keep .kept .1 .1 .1 .0) (λ p l. c .before .before .keep .ensures p l ∙ ap (λ (b : Bool). b && isAt a.trace.now a.phase p) (second-was h p l))
+returns c = let a = c .before .before .before .before .before .before .before .args in
+    let h = c .before .before .before .before .before .before .before .pre .0 in
+    second-back h _ _ (c .before .before .keep .kept .1 .1 .1 .1 .0) (λ p l. c .before .before .keep .ensures p l ∙ ap (λ (b : Bool). b && isAt a.trace.now a.phase p) (second-was h p l))
 
 pub keep-second-spec : {M : Type 1} → statement M
 keep-second-spec =

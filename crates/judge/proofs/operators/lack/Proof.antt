@@ -16,16 +16,16 @@ part-fill-lacking-start : tie.Need-part-fill-lacking-start
 part-fill-lacking-start c = search needs
 
 part-fill-lacking-end : tie.Need-part-fill-lacking-end
-part-fill-lacking-end c = row-fits (c .before .before .pre)
+part-fill-lacking-end c = row-fits (c .before .before .before .pre .0)
 
 fill-lacking-requires : tie.Need-fill-lacking-requires
-fill-lacking-requires c κs = first-room (c .before .before .before .pre)
+fill-lacking-requires c κs = (first-room (c .before .before .before .before .pre .0), c .before .before .before .before .pre .1)
 
 same-length : tie.Need-same-length
-same-length c = first-length (c .before .before .before .before .before .before .pre) (c .before .before .fill-lacking .last .1 .1 .1 .0) (c .before .before .fill-lacking .kept .1 .1 .1 .0)
+same-length c = first-length (c .before .before .before .before .before .before .before .pre .0) (c .before .before .fill-lacking .last .1 .1 .1 .1 .0) (c .before .before .fill-lacking .kept .1 .1 .1 .1 .0)
 
 returns : tie.Need-returns
-returns c = first-back (c .before .before .before .before .before .before .pre) _ _ (c .before .before .fill-lacking .kept .1 .1 .1 .0) (c .before .before .fill-lacking .ensures)
+returns c = first-back (c .before .before .before .before .before .before .before .pre .0) _ _ (c .before .before .fill-lacking .kept .1 .1 .1 .1 .0) (c .before .before .fill-lacking .ensures)
 
 pub lack-spec : {M : Type 1} → statement M
 lack-spec =

@@ -17,16 +17,16 @@ enum-told : tie.Need-enum-told
 enum-told c = search needs
 
 next-requires : tie.Need-next-requires
-next-requires c κs = one-row (c .before .before .before .before .before .pre) refl
+next-requires c κs = one-row (c .before .before .before .before .before .before .pre .0) refl
 
 enum-told-2 : tie.Need-enum-told-2
 enum-told-2 c = search needs
 
 keep-requires : tie.Need-keep-requires
-keep-requires c κs = one-row (c .before .before .before .before .before .pre) refl
+keep-requires c κs = (one-row (c .before .before .before .before .before .before .pre .0) refl, c .before .before .before .before .before .before .pre .1)
 
 next-requires-2 : tie.Need-next-requires-2
-next-requires-2 c κs = one-row (c .before .before .before .before .before .before .before .before .before .pre) (c .before .before .before .keep .kept .1 .1 .1 .0)
+next-requires-2 c κs = one-row (c .before .before .before .before .before .before .before .before .before .before .pre .0) (c .before .before .before .keep .kept .1 .1 .1 .1 .0)
 
 enum-known-family : tie.Need-enum-known-family
 enum-known-family c = search needs
@@ -35,7 +35,7 @@ phase-of-requires : tie.Need-phase-of-requires
 phase-of-requires c κs = search needs
 
 second-of-sequence-requires : tie.Need-second-of-sequence-requires
-second-of-sequence-requires c κs = c .before .before .before .before .before .before .before .pre
+second-of-sequence-requires c κs = c .before .before .before .before .before .before .before .before .pre
 
 same-length : tie.Need-same-length
 same-length c = c .before .before .next .kept .1 .1 .0
@@ -44,14 +44,14 @@ returns : tie.Need-returns
 returns c = rw (c .before .before .before .before .enum-told .given .1) (c .before .before .next .ensures)
 
 same-length-2 : tie.Need-same-length-2
-same-length-2 c = c .before .before .next2 .kept .1 .1 .0 ∙ c .before .before .before .before .before .before .keep .kept .1 .1 .1 .0
+same-length-2 c = c .before .before .next2 .kept .1 .1 .0 ∙ c .before .before .before .before .before .before .keep .kept .1 .1 .1 .1 .0
 
 returns-2 : tie.Need-returns-2
-returns-2 c = let a = c .before .before .before .before .before .before .before .before .before .before .before .before .args in
-    rw (c .before .before .before .before .before .before .before .before .enum-told2 .given .1) (λ p h. c .before .before .next2 .ensures p h ∙ c .before .before .before .before .before .before .keep .ensures _ (after-below (c .before .before .before .before .before .before .before .before .before .before .before .before .pre) p h) ∙ kept a.trace.now Exe a.work.now (afterOf (positions a.trace.now) a.start p))
+returns-2 c = let a = c .before .before .before .before .before .before .before .before .before .before .before .before .before .args in
+    rw (c .before .before .before .before .before .before .before .before .enum-told2 .given .1) (λ p h. c .before .before .next2 .ensures p h ∙ c .before .before .before .before .before .before .keep .ensures _ (after-below (c .before .before .before .before .before .before .before .before .before .before .before .before .before .pre .0) p h) ∙ kept a.trace.now Exe a.work.now (afterOf (positions a.trace.now) a.start p))
 
 same-length-3 : tie.Need-same-length-3
-same-length-3 c = c .before .before .second-of-sequence .kept .1 .1 .1 .1 .0
+same-length-3 c = c .before .before .second-of-sequence .kept .1 .1 .1 .1 .1 .0
 
 returns-3 : tie.Need-returns-3
 returns-3 c = rw (c .before .before .before .before .before .before .family .given .1, ← c .before .before .before .before .phase-of .ensures) (c .before .before .second-of-sequence .ensures)

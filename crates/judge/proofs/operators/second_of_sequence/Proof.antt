@@ -10,20 +10,20 @@ use Rattle.judge.proofs.operators.next.Reads as next-reads
 use Rattle.judge.proofs.operators.reach.Reads as reach-reads
 
 reach-requires : tie.Need-reach-requires
-reach-requires c κs = c .before .before .before .pre
+reach-requires c κs = c .before .before .before .before .pre
 
 next-requires : tie.Need-next-requires
-next-requires c κs = one-row (c .before .before .before .before .before .before .before .pre) (c .before .before .before .reach .kept .1 .1 .1 .0)
+next-requires c κs = one-row (c .before .before .before .before .before .before .before .before .pre .0) (c .before .before .before .reach .kept .1 .1 .1 .1 .0)
 
 reach-requires-2 : tie.Need-reach-requires-2
-reach-requires-2 c κs = as-long (c .before .before .before .before .before .before .before .before .before .before .before .pre) (c .before .before .before .next .kept .1 .1 .0 ∙ c .before .before .before .before .before .before .before .reach .kept .1 .1 .1 .0)
+reach-requires-2 c κs = (as-long (c .before .before .before .before .before .before .before .before .before .before .before .before .pre .0) (c .before .before .before .next .kept .1 .1 .0 ∙ c .before .before .before .before .before .before .before .reach .kept .1 .1 .1 .1 .0), c .before .before .before .before .before .before .before .before .before .before .before .before .pre .1)
 
 same-length : tie.Need-same-length
-same-length c = c .before .before .reach2 .kept .1 .1 .1 .0 ∙ c .before .before .before .before .before .before .next .kept .1 .1 .0 ∙ c .before .before .before .before .before .before .before .before .before .before .reach .kept .1 .1 .1 .0
+same-length c = c .before .before .reach2 .kept .1 .1 .1 .1 .0 ∙ c .before .before .before .before .before .before .next .kept .1 .1 .0 ∙ c .before .before .before .before .before .before .before .before .before .before .reach .kept .1 .1 .1 .1 .0
 
 returns : tie.Need-returns
-returns c = let a = c .before .before .before .before .before .before .before .before .before .before .before .before .before .before .args in
-    let h = c .before .before .before .before .before .before .before .before .before .before .before .before .before .before .pre in
+returns c = let a = c .before .before .before .before .before .before .before .before .before .before .before .before .before .before .before .args in
+    let h = c .before .before .before .before .before .before .before .before .before .before .before .before .before .before .before .pre .0 in
     until-of h (c .before .before .reach2 .ensures) (λ q l. refl)
     (λ q l. ap (λ (b : Bool). isAt a.trace.now a.first q && b) (c .before .before .before .before .before .before .next .ensures q l ∙ c .before .before .before .before .before .before .before .before .before .before .reach .ensures _ (after-below h q l)))
 

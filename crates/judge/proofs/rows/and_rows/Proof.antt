@@ -1,12 +1,11 @@
 use borrow.Author.Needs.{needs}
-use mathlib.Core.Path.{_≡_, sym, _∙_}
 use mathlib.Core.Bool.{_&&_}
-use Prim.Native.Nat.{_+_, _-_, _≤_}
+use Prim.Native.Nat.{_-_, _≤_}
 use native.Mathlib.Omega.{arith}
-use lib.ListN.{getD, drop}
-use lib.Seq.{getD-drop}
+use lib.ListN.{drop}
 use Rattle.bits.specs.Bits.{bitAt}
-use Rattle.bits.proofs.Bytes.{packs-byte, packs-and, Made, made-none, made-more}
+use Rattle.bits.proofs.Bytes.{packs-and, Made, made-none, made-more}
+use Rattle.judge.proofs.Packing.{packs-behind}
 use Rattle.judge.proofs.rows.and_rows.Statement.{statement}
 use Rattle.judge.proofs.rows.and_rows.Tie as tie
 use Rattle.judge.proofs.rows.and_rows.Reads as reads
@@ -41,11 +40,8 @@ loop-less c = search needs
 
 loop-again : tie.Need-loop-again Inv-loop μ-loop
 loop-again c =
-    let l = c .before .before .before .loop in
-    let a = c .before .before .before .before .args in
-    let h = l .inv .1 in
-    let e : getD (l .work) (a .n + l .i) 0 ≡ getD (drop (a .n) (a .work .now)) (l .i) 0 = h .rest (a .n + l .i) (omega arith) ∙ sym (getD-drop (a .n) (a .work .now) (l .i) 0) in
-    (omega arith, made-more _ (omega arith) (packs-and _ _ _ (omega arith) (rw e (packs-byte (drop (a .n) (a .work .now)) (l .i) 8 (omega arith))) h) h)
+    let h = c .before .before .before .loop .inv .1 in
+    (omega arith, made-more _ (omega arith) (packs-and _ _ _ (omega arith) (packs-behind (c .before .before .before .before .args .n) h) h) h)
 
 same-length : tie.Need-same-length Inv-loop μ-loop
 same-length c = c .before .loop .inv .1 .size

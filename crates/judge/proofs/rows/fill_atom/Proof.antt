@@ -1,80 +1,25 @@
-use Prim.Native.Nat.{_-_, _≤_}
-use native.Mathlib.Omega.{arith}
-use lib.ListN.{length-set}
-use Rattle.lasso.specs.Bytes.{atomB}
+use mathlib.Core.Path.{_∙_}
+use Rattle.judge.proofs.Packing.{atom-digit}
 use borrow.Author.Needs.{needs}
-use Rattle.bits.proofs.Bytes.{Made, made-none, made-more, made-part}
 use Rattle.judge.proofs.rows.fill_atom.Statement.{statement}
 use Rattle.judge.proofs.rows.fill_atom.Tie as tie
 use Rattle.judge.proofs.rows.fill_atom.Reads as reads
 use Rattle.judge.proofs.rows.fill_atom.Lts as lts
-use Rattle.judge.proofs.rows.atom_byte.Reads as atom-byte-reads
+use Rattle.judge.proofs.rows.fill_digit.Reads as fill-digit-reads
 
-abbrev Inv-loop : tie.InvT-loop
-Inv-loop trace a work₀ n full i₀ work i = (i ≤ full) × Made (atomB trace a) work₀ i work
+add-fill-digit : tie.Need-add-fill-digit
+add-fill-digit c = search needs
 
-abbrev μ-loop : tie.MeasureT-loop
-μ-loop trace a work₀ n full i₀ work i = full - i
+fill-digit-requires : tie.Need-fill-digit-requires
+fill-digit-requires c κs = search needs
 
-loop-holds : tie.Need-loop-holds Inv-loop μ-loop
-loop-holds c = (omega arith, made-none _ _)
+same-length : tie.Need-same-length
+same-length c = search needs
 
-mul-atom-byte : tie.Need-mul-atom-byte Inv-loop μ-loop
-mul-atom-byte c = search needs
-
-atom-byte-requires : tie.Need-atom-byte-requires Inv-loop μ-loop
-atom-byte-requires c κs = search needs
-
-slice-write-work : tie.Need-slice-write-work Inv-loop μ-loop
-slice-write-work c = search needs
-
-add-i : tie.Need-add-i Inv-loop μ-loop
-add-i c = search needs
-
-loop-less : tie.Need-loop-less Inv-loop μ-loop
-loop-less c = search needs
-
-loop-again : tie.Need-loop-again Inv-loop μ-loop
-loop-again c = (omega arith, made-more _ (omega arith) (c .atom-byte .ensures) (c .before .before .loop .inv .1))
-
-mul-atom-byte-2 : tie.Need-mul-atom-byte-2 Inv-loop μ-loop
-mul-atom-byte-2 c = search needs
-
-atom-byte-requires-2 : tie.Need-atom-byte-requires-2 Inv-loop μ-loop
-atom-byte-requires-2 c κs = search needs
-
-slice-write-work-2 : tie.Need-slice-write-work-2 Inv-loop μ-loop
-slice-write-work-2 c = search needs
-
-same-length : tie.Need-same-length Inv-loop μ-loop
-same-length c = simp length-set (c .before .before .before .loop .inv .1 .size)
-
-returns : tie.Need-returns Inv-loop μ-loop
-returns c = λ p h. made-part _ (omega arith) _ (omega arith) (c .atom-byte2 .ensures) (c .before .before .before .loop .inv .1) p (omega arith)
-
-same-length-2 : tie.Need-same-length-2 Inv-loop μ-loop
-same-length-2 c = c .before .before .loop .inv .1 .size
-
-returns-2 : tie.Need-returns-2 Inv-loop μ-loop
-returns-2 c = λ p h. c .before .before .loop .inv .1 .done p (omega arith)
+returns : tie.Need-returns
+returns c =
+    let a = c .before .before .before .before .before .before .args in
+    λ p h. c .before .before .fill-digit .ensures p h ∙ atom-digit a.trace.now a.a p
 
 pub fill-atom-spec : {M : Type 1} → statement M
-fill-atom-spec =
-    tie.close
-    (tie.spec
-    Inv-loop
-    μ-loop
-    loop-holds
-    mul-atom-byte
-    atom-byte-requires
-    slice-write-work
-    add-i
-    loop-less
-    loop-again
-    mul-atom-byte-2
-    atom-byte-requires-2
-    slice-write-work-2
-    same-length
-    returns
-    same-length-2
-    returns-2)
+fill-atom-spec = tie.close (tie.spec add-fill-digit fill-digit-requires same-length returns)

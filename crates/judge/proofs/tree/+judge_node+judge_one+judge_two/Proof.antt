@@ -23,46 +23,45 @@ use Rattle.judge.proofs.tree.judge_two.Kinds as judge-two-kinds
 use Rattle.judge.proofs.tree.+judge_node+judge_one+judge_two.Lts-judge_two as judge-two-lts
 use Rattle.judge.proofs.operators.apply_one.Reads as apply-one-reads
 use Rattle.judge.proofs.operators.apply_two.Reads as apply-two-reads
-use Rattle.lasso.proofs.phase_number.Reads as phase-number-reads
+use Rattle.judge.proofs.operators.fill_phase.Reads as fill-phase-reads
 use Rattle.judge.proofs.rows.fill_atom.Reads as fill-atom-reads
-use Rattle.judge.proofs.rows.fill_mark.Reads as fill-mark-reads
 use Rattle.requirement.proofs.read_node.Reads as read-node-reads
 use Rattle.judge.proofs.tree.+judge_node+judge_one+judge_two.{statement}
 use Rattle.judge.proofs.tree.+judge_node+judge_one+judge_two.Tie.{close}
 
-abbrev μ-judge-node : Measures 3 judge-node-kinds.ps ℕ
+abbrev μ-judge-node : Measures 4 judge-node-kinds.ps ℕ
 μ-judge-node κs a = 2 * a .1 .1 .1 .0
 
-abbrev μ-judge-one : Measures 3 judge-one-kinds.ps ℕ
+abbrev μ-judge-one : Measures 4 judge-one-kinds.ps ℕ
 μ-judge-one κs a = 2 * a .1 .1 .1 .1 .0 + 1
 
-abbrev μ-judge-two : Measures 3 judge-two-kinds.ps ℕ
+abbrev μ-judge-two : Measures 4 judge-two-kinds.ps ℕ
 μ-judge-two κs a = 2 * a .1 .1 .1 .1 .0 + 1
 
-abbrev judge-node-at : ℕ → In 3 judge-node-kinds.ps
+abbrev judge-node-at : ℕ → In 4 judge-node-kinds.ps
 judge-node-at t =
-    and 3 judge-node-kinds.ps (is 3 judge-node-kinds.ps μ-judge-node t) judge-node.Pre
+    and 4 judge-node-kinds.ps (is 4 judge-node-kinds.ps μ-judge-node t) judge-node.Pre
 
-abbrev judge-node-below : ℕ → In 3 judge-node-kinds.ps
+abbrev judge-node-below : ℕ → In 4 judge-node-kinds.ps
 judge-node-below t =
-    and 3 judge-node-kinds.ps (falls 3 judge-node-kinds.ps _<_ μ-judge-node t) judge-node.Pre
+    and 4 judge-node-kinds.ps (falls 4 judge-node-kinds.ps _<_ μ-judge-node t) judge-node.Pre
 
-abbrev judge-one-at : ℕ → In 3 judge-one-kinds.ps
-judge-one-at t = and 3 judge-one-kinds.ps (is 3 judge-one-kinds.ps μ-judge-one t) judge-one.Pre
+abbrev judge-one-at : ℕ → In 4 judge-one-kinds.ps
+judge-one-at t = and 4 judge-one-kinds.ps (is 4 judge-one-kinds.ps μ-judge-one t) judge-one.Pre
 
-abbrev judge-one-below : ℕ → In 3 judge-one-kinds.ps
+abbrev judge-one-below : ℕ → In 4 judge-one-kinds.ps
 judge-one-below t =
-    and 3 judge-one-kinds.ps (falls 3 judge-one-kinds.ps _<_ μ-judge-one t) judge-one.Pre
+    and 4 judge-one-kinds.ps (falls 4 judge-one-kinds.ps _<_ μ-judge-one t) judge-one.Pre
 
-abbrev judge-two-at : ℕ → In 3 judge-two-kinds.ps
-judge-two-at t = and 3 judge-two-kinds.ps (is 3 judge-two-kinds.ps μ-judge-two t) judge-two.Pre
+abbrev judge-two-at : ℕ → In 4 judge-two-kinds.ps
+judge-two-at t = and 4 judge-two-kinds.ps (is 4 judge-two-kinds.ps μ-judge-two t) judge-two.Pre
 
-abbrev judge-two-below : ℕ → In 3 judge-two-kinds.ps
+abbrev judge-two-below : ℕ → In 4 judge-two-kinds.ps
 judge-two-below t =
-    and 3 judge-two-kinds.ps (falls 3 judge-two-kinds.ps _<_ μ-judge-two t) judge-two.Pre
+    and 4 judge-two-kinds.ps (falls 4 judge-two-kinds.ps _<_ μ-judge-two t) judge-two.Pre
 
 abbrev judge-node-calls : ℕ → judge-node-lts.Claims
-judge-node-calls t = (read-node-reads.Asked, read-node-reads.Learnt, fill-atom-reads.Asked, fill-atom-reads.Learnt, phase-number-reads.Asked, phase-number-reads.Learnt, fill-mark-reads.Asked, fill-mark-reads.Learnt, judge-one-below t, judge-one.Post, judge-two-below t, judge-two.Post)
+judge-node-calls t = (read-node-reads.Asked, read-node-reads.Learnt, fill-atom-reads.Asked, fill-atom-reads.Learnt, fill-phase-reads.Asked, fill-phase-reads.Learnt, judge-one-below t, judge-one.Post, judge-two-below t, judge-two.Post)
 
 abbrev judge-one-calls : ℕ → judge-one-lts.Claims
 judge-one-calls t = (judge-node-below t, judge-node.Post, apply-one-reads.Asked, apply-one-reads.Learnt)
@@ -72,7 +71,7 @@ judge-two-calls t = (judge-node-below t, judge-node.Post, apply-two-reads.Asked,
 
 judge-node-returns : (t : ℕ) → judge-node-lts.Need-returns (judge-node-calls t) (judge-node-at t) judge-node.Post
 judge-node-returns t c =
-    let a = c .before .before .before .before .args in
+    let a = c .before .before .before .before .before .args in
     rowed-none a.kind a.code.now a.at a.depth a.trace.now a.start _ _ (c .if1 .taken)
 
 judge-node-sub-below : (t : ℕ) → judge-node-lts.Need-sub-below (judge-node-calls t) (judge-node-at t) judge-node.Post
@@ -95,39 +94,36 @@ judge-node-cast-fill-atom t c = search needs
 
 judge-node-fill-atom-requires : (t : ℕ) → judge-node-lts.Need-fill-atom-requires (judge-node-calls t) (judge-node-at t) judge-node.Post
 judge-node-fill-atom-requires t c κs =
-    let s = c .before .before .before .before .before .before .before .before .before .before .before .before in
+    let s = c .before .before .before .before .before .before .before .before .before .before .before .before .before in
     let a = s .args in (
       omega (arith, atom-to-31 a.kind a.code.now a.at _ _ (node-found a.kind a.code.now a.at _ (c .before .before .before .before .before .before .before .read-node .ensures) (c .before .before .before .before .before .node .given .1) (c .before .before .node2 .given .1))),
-      s .pre .1 .few,
-      room-row (room-in (s .pre .1) (c .before .before .before .before .before .before .before .before .if1 .left)),
+      s .pre .1 .0 .few,
+      room-row (room-in (s .pre .1 .0) (c .before .before .before .before .before .before .before .before .if1 .left)),
     )
 
 judge-node-enum-known-node-3 : (t : ℕ) → judge-node-lts.Need-enum-known-node-3 (judge-node-calls t) (judge-node-at t) judge-node.Post
 judge-node-enum-known-node-3 t c = search needs
 
-judge-node-phase-number-requires : (t : ℕ) → judge-node-lts.Need-phase-number-requires (judge-node-calls t) (judge-node-at t) judge-node.Post
-judge-node-phase-number-requires t c κs = search needs
-
-judge-node-fill-mark-requires : (t : ℕ) → judge-node-lts.Need-fill-mark-requires (judge-node-calls t) (judge-node-at t) judge-node.Post
-judge-node-fill-mark-requires t c κs =
+judge-node-fill-phase-requires : (t : ℕ) → judge-node-lts.Need-fill-phase-requires (judge-node-calls t) (judge-node-at t) judge-node.Post
+judge-node-fill-phase-requires t c κs =
     let s = c .before .before .before .before .before .before .before .before .before .before .before .before .before in
-    (s .pre .1 .few, room-row (room-in (s .pre .1) (c .before .before .before .before .before .before .before .before .before .if1 .left)))
+    (s .pre .1 .1, room-row (room-in (s .pre .1 .0) (c .before .before .before .before .before .before .before .before .if1 .left)), s .pre .1 .0 .few)
 
 judge-node-enum-known-node-4 : (t : ℕ) → judge-node-lts.Need-enum-known-node-4 (judge-node-calls t) (judge-node-at t) judge-node.Post
 judge-node-enum-known-node-4 t c = search needs
 
 judge-node-judge-one-requires : (t : ℕ) → judge-node-lts.Need-judge-one-requires (judge-node-calls t) (judge-node-at t) judge-node.Post
-judge-node-judge-one-requires t c κs = (omega (arith, c .before .before .before .before .before .before .before .before .before .before .before .before .pre .0), room-in (c .before .before .before .before .before .before .before .before .before .before .before .before .pre .1) (c .before .before .before .before .before .before .before .before .if1 .left))
+judge-node-judge-one-requires t c κs = (omega (arith, c .before .before .before .before .before .before .before .before .before .before .before .before .before .pre .0), (room-in (c .before .before .before .before .before .before .before .before .before .before .before .before .before .pre .1 .0) (c .before .before .before .before .before .before .before .before .if1 .left), c .before .before .before .before .before .before .before .before .before .before .before .before .before .pre .1 .1))
 
 judge-node-enum-known-node-5 : (t : ℕ) → judge-node-lts.Need-enum-known-node-5 (judge-node-calls t) (judge-node-at t) judge-node.Post
 judge-node-enum-known-node-5 t c = search needs
 
 judge-node-judge-two-requires : (t : ℕ) → judge-node-lts.Need-judge-two-requires (judge-node-calls t) (judge-node-at t) judge-node.Post
-judge-node-judge-two-requires t c κs = (omega (arith, c .before .before .before .before .before .before .before .before .before .before .before .before .pre .0), room-in (c .before .before .before .before .before .before .before .before .before .before .before .before .pre .1) (c .before .before .before .before .before .before .before .before .if1 .left))
+judge-node-judge-two-requires t c κs = (omega (arith, c .before .before .before .before .before .before .before .before .before .before .before .before .before .pre .0), (room-in (c .before .before .before .before .before .before .before .before .before .before .before .before .before .pre .1 .0) (c .before .before .before .before .before .before .before .before .if1 .left), c .before .before .before .before .before .before .before .before .before .before .before .before .before .pre .1 .1))
 
 judge-node-returns-2 : (t : ℕ) → judge-node-lts.Need-returns-2 (judge-node-calls t) (judge-node-at t) judge-node.Post
 judge-node-returns-2 t c =
-    let a = c .before .before .before .before .before .before .before .args in
+    let a = c .before .before .before .before .before .before .before .before .args in
     rowed-fault a.kind a.code.now a.at a.depth a.trace.now a.start _ _ (c .before .before .before .if1 .left) (sym (c .before .before .read-node .ensures) ∙ c .enum-told .given .1)
 
 judge-node-same-length : (t : ℕ) → judge-node-lts.Need-same-length (judge-node-calls t) (judge-node-at t) judge-node.Post
@@ -135,7 +131,7 @@ judge-node-same-length t c = search needs
 
 judge-node-returns-3 : (t : ℕ) → judge-node-lts.Need-returns-3 (judge-node-calls t) (judge-node-at t) judge-node.Post
 judge-node-returns-3 t c =
-    let a = c .before .before .before .before .before .before .before .before .before .before .before .before .before .before .before .args in
+    let a = c .before .before .before .before .before .before .before .before .before .before .before .before .before .before .before .before .args in
     rowed-atom a.kind a.code.now a.at a.depth a.trace.now a.start _ _ (c .before .before .before .before .before .before .before .before .before .before .before .if1 .left) _ (node-found a.kind a.code.now a.at _ (c .before .before .before .before .before .before .before .before .before .before .read-node .ensures) (c .before .before .before .before .before .before .before .before .node .given .1) (c .before .before .before .before .before .node2 .given .1)) (c .before .before .fill-atom .ensures)
 
 judge-node-same-length-2 : (t : ℕ) → judge-node-lts.Need-same-length-2 (judge-node-calls t) (judge-node-at t) judge-node.Post
@@ -144,14 +140,14 @@ judge-node-same-length-2 t c = search needs
 judge-node-returns-4 : (t : ℕ) → judge-node-lts.Need-returns-4 (judge-node-calls t) (judge-node-at t) judge-node.Post
 judge-node-returns-4 t c =
     let a = c .before .before .before .before .before .before .before .before .before .before .before .before .before .before .before .before .args in
-    rowed-mark a.kind a.code.now a.at a.depth a.trace.now a.start _ _ (c .before .before .before .before .before .before .before .before .before .before .before .before .if1 .left) _ _ (node-found a.kind a.code.now a.at _ (c .before .before .before .before .before .before .before .before .before .before .before .read-node .ensures) (c .before .before .before .before .before .before .before .before .before .node .given .1) (c .before .before .before .before .before .before .node3 .given .1)) (c .before .before .before .before .before .before .before .before .before .before .before .before .before .before .before .before .pre .1 .phases) (c .before .before .before .before .phase-number .ensures) (c .before .before .fill-mark .ensures)
+    rowed-mark a.kind a.code.now a.at a.depth a.trace.now a.start _ _ (c .before .before .before .before .before .before .before .before .before .before .before .if1 .left) _ (node-found a.kind a.code.now a.at _ (c .before .before .before .before .before .before .before .before .before .before .read-node .ensures) (c .before .before .before .before .before .before .before .before .node .given .1) (c .before .before .before .before .before .node3 .given .1)) (c .before .before .fill-phase .ensures)
 
 judge-node-same-length-3 : (t : ℕ) → judge-node-lts.Need-same-length-3 (judge-node-calls t) (judge-node-at t) judge-node.Post
 judge-node-same-length-3 t c = search needs
 
 judge-node-returns-5 : (t : ℕ) → judge-node-lts.Need-returns-5 (judge-node-calls t) (judge-node-at t) judge-node.Post
 judge-node-returns-5 t c =
-    let a = c .before .before .before .before .before .before .before .before .before .before .before .before .before .before .before .args in
+    let a = c .before .before .before .before .before .before .before .before .before .before .before .before .before .before .before .before .args in
     rowed-one a.kind a.code.now a.at a.depth a.trace.now a.start _ _ (c .before .before .before .before .before .before .before .before .before .before .before .if1 .left) _ (node-found a.kind a.code.now a.at _ (c .before .before .before .before .before .before .before .before .before .before .read-node .ensures) (c .before .before .before .before .before .before .before .before .node .given .1) (c .before .before .before .before .before .node4 .given .1)) (c .before .before .judge-one .ensures)
 
 judge-node-same-length-4 : (t : ℕ) → judge-node-lts.Need-same-length-4 (judge-node-calls t) (judge-node-at t) judge-node.Post
@@ -159,38 +155,38 @@ judge-node-same-length-4 t c = search needs
 
 judge-node-returns-6 : (t : ℕ) → judge-node-lts.Need-returns-6 (judge-node-calls t) (judge-node-at t) judge-node.Post
 judge-node-returns-6 t c =
-    let a = c .before .before .before .before .before .before .before .before .before .before .before .before .before .before .before .args in
+    let a = c .before .before .before .before .before .before .before .before .before .before .before .before .before .before .before .before .args in
     rowed-two a.kind a.code.now a.at a.depth a.trace.now a.start _ _ (c .before .before .before .before .before .before .before .before .before .before .before .if1 .left) _ (node-found a.kind a.code.now a.at _ (c .before .before .before .before .before .before .before .before .before .before .read-node .ensures) (c .before .before .before .before .before .before .before .before .node .given .1) (c .before .before .before .before .before .node5 .given .1)) (c .before .before .judge-two .ensures)
 
 judge-one-returns : (t : ℕ) → judge-one-lts.Need-returns (judge-one-calls t) (judge-one-at t) judge-one.Post
 judge-one-returns t c =
-    let a = c .before .before .before .before .args in
+    let a = c .before .before .before .before .before .args in
     rw (walk-none a.kind a.code.now a.at _ (c .if1 .taken)) tt
 
 judge-one-judge-node-requires : (t : ℕ) → judge-one-lts.Need-judge-node-requires (judge-one-calls t) (judge-one-at t) judge-one.Post
-judge-one-judge-node-requires t c κs = (omega (arith, c .before .before .before .before .before .pre .0), room-less (c .before .before .before .before .before .pre .1) _ (omega arith))
+judge-one-judge-node-requires t c κs = (omega (arith, c .before .before .before .before .before .before .pre .0), (room-less (c .before .before .before .before .before .before .pre .1 .0) _ (omega arith), c .before .before .before .before .before .before .pre .1 .1))
 
 judge-one-apply-one-requires : (t : ℕ) → judge-one-lts.Need-apply-one-requires (judge-one-calls t) (judge-one-at t) judge-one.Post
-judge-one-apply-one-requires t c κs = room-pair (c .before .before .before .before .before .before .before .before .before .pre .1) (c .before .before .before .before .before .if1 .left) _ (c .before .before .before .judge-node .kept .1 .1 .1 .1 .1 .1 .0)
+judge-one-apply-one-requires t c κs = (room-pair (c .before .before .before .before .before .before .before .before .before .before .pre .1 .0) (c .before .before .before .before .before .if1 .left) _ (c .before .before .before .judge-node .kept .1 .1 .1 .1 .1 .1 .1 .0), c .before .before .before .before .before .before .before .before .before .before .pre .1 .1)
 
 judge-one-same-length : (t : ℕ) → judge-one-lts.Need-same-length (judge-one-calls t) (judge-one-at t) judge-one.Post
 judge-one-same-length t c = search needs
 
 judge-one-returns-2 : (t : ℕ) → judge-one-lts.Need-returns-2 (judge-one-calls t) (judge-one-at t) judge-one.Post
 judge-one-returns-2 t c =
-    let a = c .before .before .before .before .before .before .before .before .before .before .before .before .args in
-    rowed-over-one a.trace.now a.start (c .before .before .before .before .before .before .before .before .before .before .before .before .pre .1 .inside) _ _ a.operator (walkAt a.kind a.depth a.code.now a.at) _ (c .before .before .before .before .before .before .judge-node .ensures) (c .before .before .apply-one .ensures)
+    let a = c .before .before .before .before .before .before .before .before .before .before .before .before .before .args in
+    rowed-over-one a.trace.now a.start (c .before .before .before .before .before .before .before .before .before .before .before .before .before .pre .1 .0 .inside) _ _ a.operator (walkAt a.kind a.depth a.code.now a.at) _ (c .before .before .before .before .before .before .judge-node .ensures) (c .before .before .apply-one .ensures)
 
 judge-two-returns : (t : ℕ) → judge-two-lts.Need-returns (judge-two-calls t) (judge-two-at t) judge-two.Post
 judge-two-returns t c =
-    let a = c .before .before .before .before .args in
+    let a = c .before .before .before .before .before .args in
     rw (walk-none a.kind a.code.now a.at _ (c .if1 .taken)) tt
 
 judge-two-add-row : (t : ℕ) → judge-two-lts.Need-add-row (judge-two-calls t) (judge-two-at t) judge-two.Post
 judge-two-add-row t c = search needs
 
 judge-two-judge-node-requires : (t : ℕ) → judge-two-lts.Need-judge-node-requires (judge-two-calls t) (judge-two-at t) judge-two.Post
-judge-two-judge-node-requires t c κs = (omega (arith, c .before .before .before .before .before .pre .0), room-less (c .before .before .before .before .before .pre .1) _ (omega arith))
+judge-two-judge-node-requires t c κs = (omega (arith, c .before .before .before .before .before .before .pre .0), (room-less (c .before .before .before .before .before .before .pre .1 .0) _ (omega arith), c .before .before .before .before .before .before .pre .1 .1))
 
 judge-two-sub-judge-node : (t : ℕ) → judge-two-lts.Need-sub-judge-node (judge-two-calls t) (judge-two-at t) judge-two.Post
 judge-two-sub-judge-node t c = search needs
@@ -203,33 +199,33 @@ judge-two-part-judge-node-end t c = search needs
 
 judge-two-judge-node-requires-2 : (t : ℕ) → judge-two-lts.Need-judge-node-requires-2 (judge-two-calls t) (judge-two-at t) judge-two.Post
 judge-two-judge-node-requires-2 t c κs =
-    let s = c .before .before .before .before .before .before .before .before .before in
-    let w = c .before .before .before .judge-node .last .1 .1 .1 .1 .1 .1 .0 in
-    let lw = c .before .before .before .judge-node .kept .1 .1 .1 .1 .1 .1 .0 in
+    let s = c .before .before .before .before .before .before .before .before .before .before in
+    let w = c .before .before .before .judge-node .last .1 .1 .1 .1 .1 .1 .1 .0 in
+    let lw = c .before .before .before .judge-node .kept .1 .1 .1 .1 .1 .1 .1 .0 in
     let r = rowOf (positions s.args.trace.now) in
-    (omega (arith, s .pre .0), room-less (s .pre .1) _ (room-behind r w lw (room-row (s .pre .1))))
+    (omega (arith, s .pre .0), (room-less (s .pre .1 .0) _ (room-behind r w lw (room-row (s .pre .1 .0))), s .pre .1 .1))
 
 judge-two-apply-two-requires : (t : ℕ) → judge-two-lts.Need-apply-two-requires (judge-two-calls t) (judge-two-at t) judge-two.Post
 judge-two-apply-two-requires t c κs =
-    let s = c .before .before .before .before .before .before .before .before .before .before .before .before .before in
-    let w = c .before .before .before .before .before .before .before .judge-node .last .1 .1 .1 .1 .1 .1 .0 in
-    let v = c .before .before .before .judge-node2 .last .1 .1 .1 .1 .1 .1 .0 in
+    let s = c .before .before .before .before .before .before .before .before .before .before .before .before .before .before in
+    let w = c .before .before .before .before .before .before .before .judge-node .last .1 .1 .1 .1 .1 .1 .1 .0 in
+    let v = c .before .before .before .judge-node2 .last .1 .1 .1 .1 .1 .1 .1 .0 in
     let r = rowOf (positions s.args.trace.now) in
-    room-pair (s .pre .1) (c .before .before .before .before .before .before .before .before .before .if1 .left) _ (same-len-mid r (length w - r) w v (c .before .before .before .judge-node2 .kept .1 .1 .1 .1 .1 .1 .0) ∙ c .before .before .before .before .before .before .before .judge-node .kept .1 .1 .1 .1 .1 .1 .0)
+    (room-pair (s .pre .1 .0) (c .before .before .before .before .before .before .before .before .before .if1 .left) _ (same-len-mid r (length w - r) w v (c .before .before .before .judge-node2 .kept .1 .1 .1 .1 .1 .1 .1 .0) ∙ c .before .before .before .before .before .before .before .judge-node .kept .1 .1 .1 .1 .1 .1 .1 .0), s .pre .1 .1)
 
 judge-two-same-length : (t : ℕ) → judge-two-lts.Need-same-length (judge-two-calls t) (judge-two-at t) judge-two.Post
 judge-two-same-length t c = search needs
 
 judge-two-returns-2 : (t : ℕ) → judge-two-lts.Need-returns-2 (judge-two-calls t) (judge-two-at t) judge-two.Post
 judge-two-returns-2 t c =
-    let s = c .before .before .before .before .before .before .before .before .before .before .before .before .before .before .before .before in
+    let s = c .before .before .before .before .before .before .before .before .before .before .before .before .before .before .before .before .before in
     let a = s .args in
-    let w = c .before .before .before .before .before .before .before .before .before .before .judge-node .last .1 .1 .1 .1 .1 .1 .0 in
-    let v = c .before .before .before .before .before .before .judge-node2 .last .1 .1 .1 .1 .1 .1 .0 in
-    let lw = c .before .before .before .before .before .before .before .before .before .before .judge-node .kept .1 .1 .1 .1 .1 .1 .0 in
-    let lv = simp (length-take, length-drop) at (c .before .before .before .before .before .before .judge-node2 .kept .1 .1 .1 .1 .1 .1 .0) in
-    let two = room-two (s .pre .1) (c .before .before .before .before .before .before .before .before .before .before .before .before .if1 .left) in
-    rowed-over-two a.trace.now a.start (s .pre .1 .inside) _ _ a.operator (λ x. walkAt a.kind a.depth a.code.now x) (walkAt a.kind a.depth a.code.now a.at)
+    let w = c .before .before .before .before .before .before .before .before .before .before .judge-node .last .1 .1 .1 .1 .1 .1 .1 .0 in
+    let v = c .before .before .before .before .before .before .judge-node2 .last .1 .1 .1 .1 .1 .1 .1 .0 in
+    let lw = c .before .before .before .before .before .before .before .before .before .before .judge-node .kept .1 .1 .1 .1 .1 .1 .1 .0 in
+    let lv = simp (length-take, length-drop) at (c .before .before .before .before .before .before .judge-node2 .kept .1 .1 .1 .1 .1 .1 .1 .0) in
+    let two = room-two (s .pre .1 .0) (c .before .before .before .before .before .before .before .before .before .before .before .before .if1 .left) in
+    rowed-over-two a.trace.now a.start (s .pre .1 .0 .inside) _ _ a.operator (λ x. walkAt a.kind a.depth a.code.now x) (walkAt a.kind a.depth a.code.now a.at)
     _ (length w - rowOf (positions a.trace.now)) w v (omega arith) (omega arith) (c .before .before .before .before .before .before .before .before .before .before .judge-node .ensures) (c .before .before .before .before .before .before .judge-node2 .ensures) (c .before .before .apply-two .ensures)
 
 pub +judge-node+judge-one+judge-two-spec : {M : Type 1} → statement M
@@ -246,8 +242,7 @@ pub +judge-node+judge-one+judge-two-spec : {M : Type 1} → statement M
     (judge-node-cast-fill-atom t)
     (judge-node-fill-atom-requires t)
     (judge-node-enum-known-node-3 t)
-    (judge-node-phase-number-requires t)
-    (judge-node-fill-mark-requires t)
+    (judge-node-fill-phase-requires t)
     (judge-node-enum-known-node-4 t)
     (judge-node-judge-one-requires t)
     (judge-node-enum-known-node-5 t)

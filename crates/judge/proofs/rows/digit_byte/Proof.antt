@@ -1,24 +1,24 @@
 use mathlib.Core.Path.{_≡_}
-use Prim.Native.Nat.{_+_, _-_, _*_, _/_, _%_, _^_, _≤_}
+use Prim.Native.Nat.{_+_, _-_, _*_, _%_, _^_, _≤_}
 use native.Mathlib.Omega.{arith}
 use lib.ListN.{getD}
-use Rattle.lasso.specs.Bytes.{atomB}
 use Rattle.bits.proofs.Digits.{mask-is}
 use Rattle.bits.proofs.Packing.{Packing, packing-none, packing-masked, packing-lt, packing-done}
-use Rattle.judge.proofs.Packing.{atom-here}
+use Rattle.judge.specs.Working.{digitIn}
+use Rattle.judge.proofs.Packing.{digit-here}
 use lib.Bits.{and-le-l}
 use borrow.Author.Needs.{needs}
-use Rattle.judge.proofs.rows.atom_byte.Statement.{statement}
-use Rattle.judge.proofs.rows.atom_byte.Tie as tie
-use Rattle.judge.proofs.rows.atom_byte.Reads as reads
-use Rattle.judge.proofs.rows.atom_byte.Lts as lts
+use Rattle.judge.proofs.rows.digit_byte.Statement.{statement}
+use Rattle.judge.proofs.rows.digit_byte.Tie as tie
+use Rattle.judge.proofs.rows.digit_byte.Reads as reads
+use Rattle.judge.proofs.rows.digit_byte.Lts as lts
 use Rattle.judge.proofs.rows.placed.Reads as placed-reads
 
 abbrev Inv-loop : tie.InvT-loop
-Inv-loop trace a p c k m at₀ acc₀ j₀ at acc j = (j ≤ c) × (at ≡ p * 5 + 1 + a / 8 + 5 * j) × Packing (atomB trace a) p (a % 8) j acc
+Inv-loop trace column k p c m at₀ acc₀ j₀ at acc j = (j ≤ c) × (at ≡ p * 5 + column + 5 * j) × Packing (digitIn trace column k) p k j acc
 
 abbrev μ-loop : tie.MeasureT-loop
-μ-loop trace a p c k m at₀ acc₀ j₀ at acc j = c - j
+μ-loop trace column k p c m at₀ acc₀ j₀ at acc j = c - j
 
 cast-m : tie.Need-cast-m Inv-loop μ-loop
 cast-m c = search needs
@@ -32,11 +32,8 @@ mul-at c = search needs
 add-at : tie.Need-add-at Inv-loop μ-loop
 add-at c = search needs
 
-add-at-2 : tie.Need-add-at-2 Inv-loop μ-loop
-add-at-2 c = search needs
-
 loop-holds : tie.Need-loop-holds Inv-loop μ-loop
-loop-holds c = let a = c .before .args in (omega arith, omega arith, packing-none (atomB a.trace.now a.a) a.p (a.a % 8))
+loop-holds c = let a = c .before .args in (omega arith, omega arith, packing-none (digitIn a.trace.now a.column a.k) a.p a.k)
 
 shared-slice-read-x : tie.Need-shared-slice-read-x Inv-loop μ-loop
 shared-slice-read-x c = search needs
@@ -49,7 +46,7 @@ cast-acc c =
     let l = c .before .before .loop in
     let a = c .before .before .before .before .args in
     let x = getD a.trace.now (l .at) 0 in
-    let m = 1 * 2 ^ (a.a % 8) % 256 in
+    let m = 1 * 2 ^ a.k % 256 in
     record { fits = omega (arith, and-le-l x m, c .shared-slice-known2 .given (l .at)) }
 
 add-acc : tie.Need-add-acc Inv-loop μ-loop
@@ -57,11 +54,11 @@ add-acc c =
     let l = c .before .before .loop in
     let a = c .before .before .before .before .args in
     let x = getD a.trace.now (l .at) 0 in
-    let m = 1 * 2 ^ (a.a % 8) % 256 in
+    let m = 1 * 2 ^ a.k % 256 in
     record { fits = omega (arith, and-le-l x m, c .shared-slice-known2 .given (l .at), l .inv .2 .small) }
 
-add-at-3 : tie.Need-add-at-3 Inv-loop μ-loop
-add-at-3 c = search needs
+add-at-2 : tie.Need-add-at-2 Inv-loop μ-loop
+add-at-2 c = search needs
 
 add-j : tie.Need-add-j Inv-loop μ-loop
 add-j c = search needs
@@ -75,7 +72,7 @@ loop-again c =
     let a = c .before .before .before .before .args in (
       omega arith,
       omega arith,
-      rw (mask-is (a.a % 8) (omega arith)) (packing-masked (l .inv .2) _ (omega arith) (omega arith) (atom-here a.trace.now a.a a.p (l .j) (l .at) (l .inv .1))),
+      rw (mask-is a.k (omega arith)) (packing-masked (l .inv .2) _ (omega arith) (omega arith) (digit-here a.trace.now a.column a.k a.p (l .j) (l .at) (l .inv .1))),
     )
 
 cast-placed : tie.Need-cast-placed Inv-loop μ-loop
@@ -96,8 +93,8 @@ returns c =
     let e : l .j ≡ c .before .before .before .before .args .c = omega arith in
     rw (c .placed .ensures) (packing-done (rw e at (l .inv .2)) (omega arith))
 
-pub atom-byte-spec : {M : Type 1} → statement M
-atom-byte-spec =
+pub digit-byte-spec : {M : Type 1} → statement M
+digit-byte-spec =
     tie.close
     (tie.spec
     Inv-loop
@@ -106,13 +103,12 @@ atom-byte-spec =
     shl-m
     mul-at
     add-at
-    add-at-2
     loop-holds
     shared-slice-read-x
     mul-acc
     cast-acc
     add-acc
-    add-at-3
+    add-at-2
     add-j
     loop-less
     loop-again

@@ -1,0 +1,92 @@
+use Prim.Native.Nat.{_+_, _-_, _*_, _≤_}
+use native.Mathlib.Omega.{arith}
+use mathlib.Core.Path.{_≡_}
+use mathlib.Core.Bool.{not, _||_}
+use lib.ListN.{getD, drop}
+use lib.Bits.{or-lt}
+use Rattle.bits.specs.Bits.{bitAt}
+use Rattle.bits.proofs.Bytes.{Made, made-none, made-more, made-rest}
+use Rattle.judge.specs.Working.{row4096}
+use Rattle.judge.proofs.Packing.{packs-behind, packs-neither}
+use borrow.Author.Needs.{needs}
+use Rattle.judge.proofs.rows.fill_neither.Statement.{statement}
+use Rattle.judge.proofs.rows.fill_neither.Tie as tie
+use Rattle.judge.proofs.rows.fill_neither.Reads as reads
+use Rattle.judge.proofs.rows.fill_neither.Lts as lts
+
+abbrev Inv-loop : tie.InvT-loop
+Inv-loop marks₀ i₀ marks i = (i ≤ row4096) × Made (λ p. not (bitAt (drop row4096 marks₀) p || bitAt (drop (2 * row4096) marks₀) p)) marks₀ i marks
+
+abbrev μ-loop : tie.MeasureT-loop
+μ-loop marks₀ i₀ marks i = row4096 - i
+
+loop-holds : tie.Need-loop-holds Inv-loop μ-loop
+loop-holds c = (omega arith, made-none _ _)
+
+add-marks : tie.Need-add-marks Inv-loop μ-loop
+add-marks c = search needs
+
+slice-read-marks : tie.Need-slice-read-marks Inv-loop μ-loop
+slice-read-marks c = search needs
+
+mul-marks : tie.Need-mul-marks Inv-loop μ-loop
+mul-marks c = search needs
+
+add-marks-2 : tie.Need-add-marks-2 Inv-loop μ-loop
+add-marks-2 c = search needs
+
+slice-read-marks-2 : tie.Need-slice-read-marks-2 Inv-loop μ-loop
+slice-read-marks-2 c = search needs
+
+sub-marks : tie.Need-sub-marks Inv-loop μ-loop
+sub-marks c =
+    let l = c .before .before .before .loop in
+    let x = c .before .slice-known .given (row4096 + l .i) in
+    let y = c .slice-known2 .given (2 * row4096 + l .i) in
+    omega (arith, or-lt 8 (getD (l .marks) (row4096 + l .i) 0) (getD (l .marks) (2 * row4096 + l .i) 0) (omega arith) (omega arith))
+
+slice-write-marks : tie.Need-slice-write-marks Inv-loop μ-loop
+slice-write-marks c = search needs
+
+add-i : tie.Need-add-i Inv-loop μ-loop
+add-i c = search needs
+
+loop-less : tie.Need-loop-less Inv-loop μ-loop
+loop-less c = search needs
+
+loop-again : tie.Need-loop-again Inv-loop μ-loop
+loop-again c =
+    let l = c .before .before .before .loop in
+    let x = c .before .slice-known .given (row4096 + l .i) in
+    let y = c .slice-known2 .given (2 * row4096 + l .i) in
+    let h = l .inv .1 in
+    (omega arith, made-more _ (omega arith) (packs-neither _ _ _ _ _ (omega arith) (omega arith) (packs-behind row4096 h) (packs-behind (2 * row4096) h)) h)
+
+same-length : tie.Need-same-length Inv-loop μ-loop
+same-length c = c .before .loop .inv .1 .size
+
+returns : tie.Need-returns Inv-loop μ-loop
+returns c =
+    let l = c .before .loop in
+    let e : l .i ≡ row4096 = omega arith in
+    (λ p h. l .inv .1 .done p (omega arith), rw e at (made-rest (l .inv .1)))
+
+pub fill-neither-spec : {M : Type 1} → statement M
+fill-neither-spec =
+    tie.close
+    (tie.spec
+    Inv-loop
+    μ-loop
+    loop-holds
+    add-marks
+    slice-read-marks
+    mul-marks
+    add-marks-2
+    slice-read-marks-2
+    sub-marks
+    slice-write-marks
+    add-i
+    loop-less
+    loop-again
+    same-length
+    returns)
