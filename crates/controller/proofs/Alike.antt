@@ -6,6 +6,7 @@ use mathlib.Core.Bool.{Bool, true, false, _&&_}
 use mathlib.Core.List.{List, [], _∷_}
 use lib.Dec.{eqb}
 use Rattle.controller.specs.declared.Process.{Process}
+use Rattle.controller.specs.State.{statesOf}
 use Rattle.controller.specs.Same.{sameValues, sameRecord, sameRecords}
 
 pub no-values : sameValues [] [] ≡ true
@@ -39,3 +40,18 @@ fewer-records q qs = refl
 pub more-records : (p : Process) (ps : List Process) → sameRecords (p ∷ ps) [] ≡ false
 unfolding sameRecords
 more-records p ps = refl
+
+-- lists of records to tests, which see the functional states alone
+abbrev pub seen-test : Process → Process → Bool
+seen-test p q = eqb (p .state) (q .state)
+
+abbrev pub seen : List Process → List Process → Bool
+seen v w = sameValues (statesOf v) (statesOf w)
+
+pub no-states : seen [] [] ≡ true
+unfolding statesOf sameValues
+no-states = refl
+
+pub a-state : (p q : Process) (ps qs : List Process) → seen (p ∷ ps) (q ∷ qs) ≡ (seen-test p q && seen ps qs)
+unfolding statesOf sameValues
+a-state p q ps qs = refl

@@ -8,7 +8,8 @@ use lib.Dec.{eqb}
 use borrow.Author.Tests.{eqb-true, eq-eqb}
 use Rattle.controller.specs.declared.Process.{Process}
 use Rattle.controller.specs.declared.Controller.{Controller}
-use Rattle.controller.specs.Same.{sameValues, sameRecord, sameRecords, sameState}
+use Rattle.controller.specs.State.{statesOf}
+use Rattle.controller.specs.Same.{sameValues, sameRecord, sameRecords, sameState, sameSeen}
 use Rattle.controller.proofs.Lists.{both, alike-equal, alike-itself}
 use Rattle.controller.proofs.Alike.{no-values, a-value, fewer-values, more-values, no-records, a-record, fewer-records, more-records}
 
@@ -62,3 +63,10 @@ state-itself c = rw (same-values-itself (c .variables), same-records-itself (c .
 
 pub equal-is-same : (c d : Controller) → c ≡ d → sameState c d ≡ true
 equal-is-same c d e = subst (λ (x : Controller). sameState c x ≡ true) e (state-itself c)
+
+-- what tests see of them
+pub same-seen-equal : (c d : Controller) → sameSeen c d ≡ true → (c .variables ≡ d .variables) × (statesOf (c .processes) ≡ statesOf (d .processes))
+unfolding sameSeen
+same-seen-equal c d e =
+    let h = both (sameValues (c .variables) (d .variables)) _ e in
+    (same-values-equal (c .variables) (d .variables) (h .0), same-values-equal (statesOf (c .processes)) (statesOf (d .processes)) (h .1))

@@ -18,6 +18,14 @@ pub both : (a b : Bool) → (a && b) ≡ true → (a ≡ true) × (b ≡ true)
 both true b e = (refl, e)
 both false b e = absurd (never e)
 
+never-both : (s : Bool) → (s && false) ≡ false
+never-both true = refl
+never-both false = refl
+
+as-before : (s : Bool) → (s && true) ≡ s
+as-before true = refl
+as-before false = refl
+
 module _ {A : Type 0} (test : A → A → Bool) (all : List A → List A → Bool)
     (none : all [] [] ≡ true)
     (one : (x y : A) (xs ys : List A) → all (x ∷ xs) (y ∷ ys) ≡ (test x y && all xs ys)) where
@@ -31,6 +39,17 @@ module _ {A : Type 0} (test : A → A → Bool) (all : List A → List A → Boo
 
     pub left-unlike : test (getD v at d) (getD w at d) ≡ false → all (drop at v) (drop at w) ≡ all v w → false ≡ all v w
     left-unlike e i = sym (split ∙ rw e refl) ∙ i
+
+    -- the same of a loop that goes on after a pair that is unlike, and keeps whether all were alike so far
+    pub still-alike : (s : Bool) → test (getD v at d) (getD w at d) ≡ true → (s && all (drop at v) (drop at w)) ≡ all v w →
+        (s && all (drop (at + 1) v) (drop (at + 1) w)) ≡ all v w
+    still-alike s e i = sym (ap (λ (b : Bool). s && b) (split ∙ rw e refl)) ∙ i
+
+    pub no-more-alike : (s : Bool) → test (getD v at d) (getD w at d) ≡ false → (s && all (drop at v) (drop at w)) ≡ all v w → false ≡ all v w
+    no-more-alike s e i = sym (ap (λ (b : Bool). s && b) (split ∙ rw e refl) ∙ never-both s) ∙ i
+
+  pub all-looked-at : (s : Bool) (v w : List A) (at : ℕ) → length v ≤ at → length w ≤ at → (s && all (drop at v) (drop at w)) ≡ all v w → s ≡ all v w
+  all-looked-at s v w at h k i = sym (ap (λ (b : Bool). s && b) (rw (drop-of-length-le v h, drop-of-length-le w k) none) ∙ as-before s) ∙ i
 
   pub left-none : (v w : List A) (at : ℕ) → length v ≤ at → length w ≤ at → all (drop at v) (drop at w) ≡ all v w → true ≡ all v w
   left-none v w at h k i = sym none ∙ rw (drop-of-length-le v h, drop-of-length-le w k) at i

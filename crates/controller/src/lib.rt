@@ -9,7 +9,7 @@ ghost use Prim.Native.Nat.{_-_};
 ghost use Rattle.controller.specs.State.{start, recordAt, withRecord, statesOf, allRaised};
 ghost use Rattle.controller.specs.Rules.{actOf};
 ghost use Rattle.controller.specs.Actions.{actionOf};
-ghost use Rattle.controller.specs.Same.{sameState};
+ghost use Rattle.controller.specs.Same.{sameSeen, sameState};
 
 // No value, and no timer: above every number of the coding.
 pub const NONE: u32 = 65536;
@@ -214,6 +214,21 @@ impl Controller {
         let mut c = self;
         c.counter = counter;
         c
+    }
+
+    // Whether two states are the same to tests: in their values and functional states.
+    pub fn seen_as(self, other: Controller) -> bool
+        ensures { λ r. ⌜ r ≡ sameSeen self other ⌝ }
+    {
+        let values = self.variables;
+        let other_values = other.variables;
+        let same = same::values(values, other_values);
+        if !same {
+            return false;
+        }
+        let records = self.processes;
+        let other_records = other.processes;
+        same::states(records, other_records)
     }
 
     // Whether two states are the same.

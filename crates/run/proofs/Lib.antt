@@ -6,3 +6,5 @@ pub mod Readings
 pub mod Unique
 pub mod Steps
 pub mod Filled
+pub mod LaidOut
+pub mod Seen

@@ -3,7 +3,7 @@
 use Prim.Native.Nat.{ℕ, zero, suc, _+_, _-_, _*_, _≤_, _<_}
 use mathlib.Core.Path.{_≡_, refl, sym, ap, _∙_}
 use mathlib.Core.Bool.{Bool, true, false}
-use mathlib.Core.List.{List, [], _++_, append-assoc}
+use mathlib.Core.List.{List, [], _∷_, _++_, append-assoc}
 use native.Mathlib.Omega.{arith}
 use lib.ListN.{length, length-append}
 use lib.Dec.{ltb}
@@ -13,7 +13,9 @@ use Rattle.coding.specs.declared.Cause.{Cause}
 use Rattle.coding.specs.declared.Cause.the-variants.{LongRun}
 use Rattle.coding.proofs.Bytes.{over-append, over-length, over-nil}
 use Rattle.ranges.specs.Values.{pick}
-use Rattle.scan.specs.Position.{stateBytes}
+use Rattle.lasso.specs.Bytes.{phaseNumber}
+use Rattle.controller.specs.State.{statesOf}
+use Rattle.scan.specs.Position.{atomBytes, stateBytes}
 use Rattle.scan.proofs.Position.{bytes-length}
 use Rattle.run.specs.Limits.{lastState}
 use Rattle.run.specs.Running.{recordedMove, here, stoppedAt, reached}
@@ -131,6 +133,15 @@ module _ (T I : List ℕ) where
 -- scans are counted in 16 bits, so one that is still to come has a number
 pub still : (m : Machine) (k : ℕ) → ltb (m .scan) k ≡ true → k < 65536 → m .scan < 65535
 still m k e h = omega (arith, ltb-true (m .scan) k e)
+
+-- The atoms of the state that is left are known, so its bytes are put.
+abbrev pub Known : List ℕ → Machine → List ℕ → Type 0
+Known T m atoms = atoms ≡ atomBytes T (m .state .variables) (statesOf (m .state .processes))
+
+pub state-put : (T : List ℕ) (m : Machine) (atoms e f : List ℕ) (at : ℕ) → Known T m atoms → f ≡ over e at (phaseNumber (m .phase) ∷ atoms) →
+    f ≡ over e at (stateBytes T (m .phase) (m .state))
+unfolding stateBytes
+state-put T m atoms e f at known written = rw known at written
 
 -- ---- the loop
 -- The whole answer from state `from` on, and what it promises.

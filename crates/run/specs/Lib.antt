@@ -3,4 +3,5 @@ pub mod Moves
 pub mod Running
 pub mod Trace
 pub mod Index
+pub mod Atoms
 pub mod Walking

@@ -1,4 +1,5 @@
 // The run of a table over recorded inputs by the published rules, and its closing to a lasso trace.
+mod atoms;
 mod moves;
 mod places;
 mod route;

@@ -3,6 +3,7 @@ use crate::Going;
 use crate::Machine;
 use crate::Ran;
 use crate::Reached;
+use crate::atoms;
 use crate::moves;
 use crate::places;
 use coding::Cause;
@@ -12,8 +13,10 @@ ghost use Prim.Native.Nat.{_+_, _-_, _*_, _<_, _≤_};
 ghost use lib.Dec.{ltb};
 ghost use Rattle.coding.specs.Room.{over};
 ghost use Rattle.ranges.specs.Limits.{mostProcesses};
-ghost use Rattle.scan.specs.Position.{stateBytes};
+ghost use mathlib.Core.List.{_∷_};
+ghost use Rattle.lasso.specs.Bytes.{phaseNumber};
 ghost use Rattle.run.specs.Index.{Indexed};
+ghost use Rattle.run.specs.Atoms.{LaidOut};
 ghost use Rattle.run.specs.Limits.{lastState};
 ghost use Rattle.run.specs.Moves.{begun};
 ghost use Rattle.run.specs.Running.{here, stoppedAt, reached, turnOf, halted, closing, ranOf};
@@ -53,14 +56,13 @@ fn before(m: Machine, k: u16) -> bool
     scan < k
 }
 
-// Writes the state that is left.
-fn leave(table: &[u16], m: Machine, n: usize, trace: &mut [u8])
+// Writes the state that is left, of which the atoms are known.
+fn leave(m: Machine, atoms: [u8; 4], n: usize, trace: &mut [u8])
     requires { ⌜ n ≤ lastState ⌝ }
-    ensures { λ _. ⌜ now (trace .exit) ≡ over (now (trace .entry)) (n * 5) (stateBytes (now (table .entry)) (m .phase) (m .state)) ⌝ }
+    ensures { λ _. ⌜ now (trace .exit) ≡ over (now (trace .entry)) (n * 5) (phaseNumber (m .phase) ∷ atoms) ⌝ }
 {
     let phase = m.phase;
-    let state = m.state;
-    scan::put_state(table, phase, state, n * 5, trace);
+    scan::put_position(phase, atoms, n * 5, trace);
 }
 
 // The state of the start.
@@ -81,19 +83,22 @@ fn begin() -> Machine
 fn run_to(
     table: &[u16],
     places: &[usize],
+    laid: &[u32],
     inputs: &[u16],
     k: u16,
     from: usize,
     machine: Machine,
     trace: &mut [u8],
 ) -> Reached
-    requires { ⌜ Indexed (now table) (now places) × (from ≤ lastState) ⌝ }
+    requires { ⌜ Indexed (now table) (now places) × LaidOut (now table) (now laid) × (from ≤ lastState) ⌝ }
     ensures { λ r. ⌜ (r ≡ reached (now (table .entry)) (now (inputs .entry)) k (lastState - from) from machine)
         × (r .number ≤ lastState)
         × (now (trace .exit) ≡ over (now (trace .entry)) (from * 5) (path (now (table .entry)) (now (inputs .entry)) (r .number - from) machine)) ⌝ }
 {
     let mut n = from;
     let mut m = machine;
+    let first = machine.state;
+    let mut atoms = atoms::atoms_of(laid, first);
     while before(m, k) {
         let moved = moves::make_move(table, places, inputs, m);
         let going = moved.going;
@@ -104,8 +109,13 @@ fn run_to(
         if LAST_STATE <= n {
             return stopped_at(Cause::LongRun, n, m);
         }
-        leave(table, m, n, trace);
-        m = moved.machine;
+        leave(m, atoms, n, trace);
+        let next = moved.machine;
+        let old = m.state;
+        let new = next.state;
+        let then = atoms::atoms_after(laid, atoms, old, new);
+        atoms = then;
+        m = next;
         n += 1;
     }
     here(n, m)
@@ -155,8 +165,10 @@ pub fn walk(table: &[u16], inputs: &[u16], trace: &mut [u8]) -> Ran
 {
     let mut places = [0usize; places::PLACES];
     places::fill(table, &mut places);
+    let mut laid = [0u32; atoms::LAID_OUT];
+    atoms::lay_out(table, &mut laid);
     let b = lookups::return_scan(inputs);
-    let back = run_to(table, &places, inputs, b, 0, begin(), trace);
+    let back = run_to(table, &places, &laid, inputs, b, 0, begin(), trace);
     let going = back.going;
     let first = back.machine;
     let start = back.number;
@@ -165,7 +177,7 @@ pub fn walk(table: &[u16], inputs: &[u16], trace: &mut [u8]) -> Ran
         Going::On => {}
     }
     let q = lookups::scans(inputs);
-    let last = run_to(table, &places, inputs, q, start, first, trace);
+    let last = run_to(table, &places, &laid, inputs, q, start, first, trace);
     let going_on = last.going;
     let end = last.machine;
     match going_on {

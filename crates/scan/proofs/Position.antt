@@ -1,14 +1,14 @@
--- The bytes of a state: how many they are, that eight atoms fit in one, and that the atoms' bytes put one after the other are all of them over the trace.
+-- The bytes of a position: how many they are, that eight atoms fit in one, and that its bytes put one after the other are all of them over the trace.
 -- Assumes nothing.
 use Prim.Native.Nat.{ℕ, zero, suc, _+_, _-_, _*_, _^_, _<_, _≤_}
-use mathlib.Core.Path.{_≡_, refl, sym}
+use mathlib.Core.Path.{_≡_, refl, sym, ap}
 use mathlib.Core.Logic.{⊎-elim}
 use mathlib.Core.Bool.{Bool}
 use mathlib.Core.List.{List, [], _∷_}
 use native.Mathlib.Nat.{pow-suc, eq-or-lt-of-le}
 use native.Mathlib.Omega.{arith}
-use native.Mathlib.Numerals.{add-one, add-two, add-three}
-use lib.ListN.{length, set}
+use native.Mathlib.Numerals.{add-one, add-two, add-three, add-four}
+use lib.ListN.{length, getD, set}
 use lib.Pow.{pow-mono}
 use borrow.Author.Tests.{le-ltb}
 use Rattle.coding.specs.Room.{over}
@@ -42,27 +42,20 @@ module _ (f : ℕ → Bool) (from left : ℕ) where
       let i : from + left ≡ from + (left - 1) + 1 = omega arith in
       rw (n, i) (omega arith)
 
--- from the count of the tests on no atom holds
-module _ (T v f : List ℕ) where
-  packed-none : (n i : ℕ) → testsOf T ≤ i → packed n (atomOf T v f) i ≡ 0
-  unfolding packed atomOf
-  packed-none zero i h = refl
-  packed-none (suc n) i h = rw (le-ltb i (testsOf T) h, packed-none n (i + 1) (omega arith)) refl
-
-  -- so the packing may begin behind the last atom of the eight that has a test
-  pub packed-begin : (tests from left : ℕ) → tests ≡ testsOf T → left ≡ tests - from - (tests - from - 8) →
-      0 ≡ packed (8 - left) (atomOf T v f) (from + left)
-  unfolding packed
-  packed-begin tests from left e l =
-      ⊎-elim (λ (q : left ≡ 8). rw q refl)
-      (λ (h : left < 8). sym (packed-none (8 - left) (from + left) (omega arith)))
-      (eq-or-lt-of-le (omega arith))
-
 pub one-digit : (b : Bool) (x : ℕ) → x ≡ digit b → x < 2
 one-digit b x e = rw e (digit-lt b)
 
--- four bytes put one after the other
-pub atoms-over : (T v f d : List ℕ) (at p q r s : ℕ) → p ≡ atomByte T v f 0 → q ≡ atomByte T v f 8 → r ≡ atomByte T v f 16 → s ≡ atomByte T v f 24 →
-    set (set (set (set d at p) (at + 1) q) (at + 2) r) (at + 3) s ≡ over d at (atomBytes T v f)
-unfolding over atomBytes
-atoms-over T v f d at p q r s e g h i = rw (e, g, h, i, add-one at, add-two at, add-three at)
+-- a list of four is its elements
+pub four : (l : List ℕ) → length l ≡ 4 → l ≡ getD l 0 0 ∷ getD l 1 0 ∷ getD l 2 0 ∷ getD l 3 0 ∷ []
+four [] e = absurd (omega arith)
+four (a ∷ []) e = absurd (omega arith)
+four (a ∷ b ∷ []) e = absurd (omega arith)
+four (a ∷ b ∷ c ∷ []) e = absurd (omega arith)
+four (a ∷ b ∷ c ∷ d ∷ []) e = refl
+four (a ∷ b ∷ c ∷ d ∷ x ∷ l) e = absurd (omega arith)
+
+-- five bytes put one after the other
+pub position-over : (atoms d : List ℕ) (at n : ℕ) → length atoms ≡ 4 →
+    set (set (set (set (set d at n) (at + 1) (getD atoms 0 0)) (at + 2) (getD atoms 1 0)) (at + 3) (getD atoms 2 0)) (at + 4) (getD atoms 3 0) ≡ over d at (n ∷ atoms)
+unfolding over
+position-over atoms d at n e = rw (add-one at, add-two at, add-three at, add-four at) (ap (λ (l : List ℕ). over d at (n ∷ l)) (sym (four atoms e)))

@@ -13,8 +13,8 @@ use Rattle.scan.proofs.read.Kinds as read
 use Rattle.scan.proofs.read.Reads as read-reads
 use Rattle.scan.proofs.write.Kinds as write
 use Rattle.scan.proofs.write.Reads as write-reads
-use Rattle.scan.proofs.put_state.Kinds as put-state
-use Rattle.scan.proofs.put_state.Reads as put-state-reads
+use Rattle.scan.proofs.put_position.Kinds as put-position
+use Rattle.scan.proofs.put_position.Reads as put-position-reads
 
 pub next-of-unique : (κs : Lfts 1) (r t : ℕ) (a : Dens κs next-of.ps) (e f : AtExit (endedOf 1 next-of.ps next-of.r) κs) →
     next-of-reads.Post κs a r e → next-of-reads.Post κs a t f → r ≡ t
@@ -28,6 +28,6 @@ pub write-unique : (κs : Lfts 1) (r t : Controller) (a : Dens κs write.ps) (e 
     write-reads.Post κs a r e → write-reads.Post κs a t f → r ≡ t
 write-unique κs r t a e f p q = p ∙ sym q
 
-pub put-state-unique : (κs : Lfts 2) (r t : Unit {0}) (a : Dens κs put-state.ps) (e f : AtExit (endedOf 2 put-state.ps put-state.r) κs) →
-    put-state-reads.Post κs a r e → put-state-reads.Post κs a t f → now (e .1 .1 .1 .1 .0) ≡ now (f .1 .1 .1 .1 .0)
-put-state-unique κs r t a e f p q = p ∙ sym q
+pub put-position-unique : (κs : Lfts 1) (r t : Unit {0}) (a : Dens κs put-position.ps) (e f : AtExit (endedOf 1 put-position.ps put-position.r) κs) →
+    put-position-reads.Post κs a r e → put-position-reads.Post κs a t f → now (e .1 .1 .1 .0) ≡ now (f .1 .1 .1 .0)
+put-position-unique κs r t a e f p q = p ∙ sym q
