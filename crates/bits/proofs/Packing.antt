@@ -3,7 +3,7 @@
 use Prim.Native.Nat.{ℕ, zero, suc, _+_, _-_, _*_, _/_, _%_, _^_, _<_, _≤_}
 use mathlib.Core.Path.{_≡_, refl, sym, _∙_}
 use mathlib.Core.Bool.{Bool}
-use native.Mathlib.Nat.{pow-suc, add-mul, mul-right-comm, mul-assoc, mul-div-cancel, mul-one, zero-mul}
+use native.Mathlib.Nat.{pow-suc, add-mul, mul-right-comm, mul-assoc, mul-div-cancel, zero-mul}
 use native.Mathlib.Omega.{arith}
 use native.Mathlib.Numerals.{add-one}
 use lib.Pow.{pow-pos, shl-lt, pow-mono, shl-exact}
@@ -77,10 +77,6 @@ module _ {f : ℕ → Bool} {p k j acc : ℕ} (h : Packing f p k j acc) where
 
   pub packing-done : j ≤ 8 → Packs f p j (acc / 2 ^ k * 2 ^ (8 - j))
   packing-done l = rw packing-all (packs f p j l)
-
--- A digit by itself.
-pub packing-bit : {f : ℕ → Bool} {p j acc : ℕ} → Packing f p 0 j acc → (v : Bool) → j < 8 → v ≡ f (p + j) → Packing f p 0 (j + 1) (acc * 2 + digit v)
-packing-bit h v hj hv = rw mul-one at (packing-next h v (omega arith) hj hv)
 
 -- A digit taken by its mask stays in its place.
 bit-digit : (r : ℕ) → r < 2 → r ≡ digit (eqb r 1)

@@ -22,7 +22,9 @@ use Rattle.controller.proofs.Controller.states.Reads as states-reads
 use Rattle.controller.proofs.Controller.with_counter.Kinds as with-counter
 use Rattle.controller.proofs.Controller.with_counter.Reads as with-counter-reads
 use Rattle.controller.proofs.Controller.same_as.Kinds as same-as
+use Rattle.controller.proofs.Controller.seen_as.Kinds as seen-as
 use Rattle.controller.proofs.Controller.same_as.Reads as same-as-reads
+use Rattle.controller.proofs.Controller.seen_as.Reads as seen-as-reads
 use Rattle.controller.proofs.at_start.Kinds as at-start
 use Rattle.controller.proofs.at_start.Reads as at-start-reads
 use Rattle.controller.proofs.action_of.Kinds as action-of
@@ -54,6 +56,10 @@ module _ (κs : Lfts 0) where
   pub same-as-unique : (r t : Bool) (a : Dens κs same-as.ps) (e f : AtExit (endedOf 0 same-as.ps same-as.r) κs) →
       same-as-reads.Post κs a r e → same-as-reads.Post κs a t f → r ≡ t
   same-as-unique r t a e f p q = p ∙ sym q
+
+  pub seen-as-unique : (r t : Bool) (a : Dens κs seen-as.ps) (e f : AtExit (endedOf 0 seen-as.ps seen-as.r) κs) →
+      seen-as-reads.Post κs a r e → seen-as-reads.Post κs a t f → r ≡ t
+  seen-as-unique r t a e f p q = p ∙ sym q
 
   pub at-start-unique : (r t : Controller) (a : Dens κs at-start.ps) (e f : AtExit (endedOf 0 at-start.ps at-start.r) κs) →
       at-start-reads.Post κs a r e → at-start-reads.Post κs a t f → r ≡ t
