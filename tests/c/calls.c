@@ -1,4 +1,5 @@
-/* A dozen calls through include/scancheck.h, with document 01's own examples: the header itself is what is tried here. */
+/* Every function of include/scancheck.h at least once, mostly on document 01's own examples: the header itself is what is
+   tried here. */
 #include "../../include/scancheck.h"
 #include <stdio.h>
 #include <string.h>
@@ -31,8 +32,9 @@ int main(void) {
     uint8_t bytes[4] = {9, 9, 9, 9};
     expect("65,535", scancheck_write_number(65535, bytes, 4), 0, 3, 0);
     expect_bytes("65,535", bytes, "\xFF\xFF\x03\x09", 4);
+    memset(bytes, 9, sizeof bytes);
     expect("no room", scancheck_write_number(65535, bytes, 2), 10, 3, 0);
-    expect_bytes("no room", bytes, "\xFF\xFF\x03\x09", 4);
+    expect_bytes("no room", bytes, "\x09\x09\x09\x09", 4);
 
     const uint8_t m1[] = {1, 2, 0, 0, 1, 0, 1};
     const uint8_t m11[] = {11, 1, 3, 2, 3, 8, 11, 1, 3, 2, 3, 0, 1};
@@ -71,18 +73,21 @@ int main(void) {
     expect("list too short", scancheck_judge(false, m1, sizeof m1, trace, sizeof trace, 4, work, 8, list, 5), 10, 6, 0);
     expect("bad loop start", scancheck_judge(false, m1, sizeof m1, trace, sizeof trace, 12, work, 8, list, 6), 9, 12, 0);
 
-    static uint8_t run[20481];
+    /* One byte longer than is needed, and filled before each call: every byte is seen to change, or to stay. */
+    static uint8_t run[20481], sevens[sizeof run];
+    static const uint8_t zeros[sizeof run];
+    memset(sevens, 7, sizeof sevens);
     memset(run, 7, sizeof run);
     expect("bench run", scancheck_run(table, sizeof table, inputs, sizeof inputs, run, sizeof run), 0, 12, 4);
     expect_bytes("bench trace", run, trace, sizeof trace);
-    expect_bytes("zero behind it", run + 60, "\0\0\0\0", 4);
-    expect_bytes("zero at the end", run + 20480, "", 1);
+    expect_bytes("zero behind it", run + sizeof trace, zeros, sizeof run - sizeof trace);
     const uint8_t other[] = {3, 1, 0, 1, 1};
+    memset(run, 7, sizeof run);
     expect("not closed", scancheck_run(table, sizeof table, other, sizeof other, run, sizeof run), 8, 3, 0);
-    expect_bytes("all zero", run, run + 60, 60);
-    run[0] = 7;
+    expect_bytes("all zero", run, zeros, sizeof run);
+    memset(run, 7, sizeof run);
     expect("no room to run", scancheck_run(table, sizeof table, inputs, sizeof inputs, run, 20479), 10, 20480, 0);
-    expect_bytes("untouched", run, "\x07", 1);
+    expect_bytes("untouched", run, sevens, sizeof run);
 
     const uint8_t sheet[] = {2, 1, 'a', 2, 'x', 'y', 1, 'b', 0};
     expect("a", scancheck_find(sheet, sizeof sheet, (const uint8_t *)"a", 1), 0, 4, 6);

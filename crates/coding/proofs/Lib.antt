@@ -8,4 +8,5 @@ pub mod Source
 pub mod Rooms
 pub mod Grammars
 pub mod Unique
+pub mod OneEach
 pub mod Examples

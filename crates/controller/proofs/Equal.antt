@@ -9,7 +9,8 @@ use borrow.Author.Tests.{eqb-true, eq-eqb}
 use Rattle.controller.specs.declared.Process.{Process}
 use Rattle.controller.specs.declared.Controller.{Controller}
 use Rattle.controller.specs.State.{statesOf}
-use Rattle.controller.specs.Same.{sameValues, sameRecord, sameRecords, sameState, sameSeen}
+use Rattle.controller.specs.Same.{sameValues, sameRecord, sameRecords, sameState}
+use Rattle.controller.specs.Seen.{sameSeen}
 use Rattle.controller.proofs.Lists.{both, alike-equal, alike-itself}
 use Rattle.controller.proofs.Alike.{no-values, a-value, fewer-values, more-values, no-records, a-record, fewer-records, more-records}
 

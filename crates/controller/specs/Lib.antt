@@ -3,3 +3,4 @@ pub mod Rules
 pub mod Actions
 pub mod Tests
 pub mod Same
+pub mod Seen

@@ -4,7 +4,6 @@ use Prim.Native.Nat.{ℕ}
 use mathlib.Core.Bool.{Bool, true, false, _&&_}
 use mathlib.Core.List.{List, [], _∷_}
 use lib.Dec.{eqb}
-use Rattle.controller.specs.State.{statesOf}
 use Rattle.controller.specs.declared.Process.{Process}
 use Rattle.controller.specs.declared.Controller.{Controller}
 
@@ -25,7 +24,3 @@ sameRecords (p ∷ ps) (q ∷ qs) = sameRecord p q && sameRecords ps qs
 
 unfoldable pub sameState : Controller → Controller → Bool
 sameState c d = sameValues (c .variables) (d .variables) && (sameRecords (c .processes) (d .processes) && eqb (c .counter) (d .counter))
-
--- The same to tests, which see the values and the functional states alone.
-unfoldable pub sameSeen : Controller → Controller → Bool
-sameSeen c d = sameValues (c .variables) (d .variables) && sameValues (statesOf (c .processes)) (statesOf (d .processes))

@@ -9,7 +9,8 @@ ghost use Prim.Native.Nat.{_-_};
 ghost use Rattle.controller.specs.State.{start, recordAt, withRecord, statesOf, allRaised};
 ghost use Rattle.controller.specs.Rules.{actOf};
 ghost use Rattle.controller.specs.Actions.{actionOf};
-ghost use Rattle.controller.specs.Same.{sameSeen, sameState};
+ghost use Rattle.controller.specs.Same.{sameState};
+ghost use Rattle.controller.specs.Seen.{sameSeen};
 
 // No value, and no timer: above every number of the coding.
 pub const NONE: u32 = 65536;

@@ -2,3 +2,4 @@ pub mod Passed
 pub mod Order
 pub mod Structured
 pub mod Past
+pub mod Unique

@@ -15,7 +15,7 @@ use Rattle.ranges.specs.Values.{pick}
 use Rattle.lookups.specs.declared.TestRow.{TestRow}
 use Rattle.lookups.specs.Places.{testsOf, testOf}
 use Rattle.controller.specs.State.{none, stop, valueAt, stateAt}
-use Rattle.controller.specs.Tests.{truth}
+use Rattle.controller.specs.Tests.{compares, truth}
 use Rattle.scan.specs.Guards.{testHolds, atomOf}
 use Rattle.run.specs.Atoms.{Sees, LaidOutTo, LaidOut, noValue, processPlace, looksAt, equals, asked}
 
@@ -69,7 +69,7 @@ module _ (v f s : List ℕ) (w : Sees v f s) where
 
 -- A number of 16 bits is no unset variable's.
 asked-equal : (b x : ℕ) → b < 65536 → asked 1 b x ≡ eqb x b
-unfolding asked
+unfolding asked compares
 asked-equal b x l =
     either (eqb x none)
     (λ e.
@@ -77,7 +77,7 @@ asked-equal b x l =
     rw (e, ne-eqb x b (λ z. omega (arith, q, l, z))) refl)
     (λ e. rw e refl)
 
-asked-kind : (e : Bool) (b x : ℕ) → asked (pick e 1 0) b x ≡ pick (eqb x none) false (pick e (eqb x b) (ltb b x))
+asked-kind : (e : Bool) (b x : ℕ) → asked (pick e 1 0) b x ≡ compares e b x
 unfolding asked
 asked-kind true b x = refl
 asked-kind false b x = refl
@@ -176,7 +176,7 @@ module _ (T laid : List ℕ) (k n : ℕ) (h : k < 32) (m : LaidOutTo k T laid) (
 
   -- An atom without a test.
   pub missing-laid : n ≤ k → LaidOutTo (suc k) T (put laid (3 * k) noValue 0 0)
-  unfolding atomOf asked
+  unfolding atomOf asked compares
   missing-laid l =
       one-laid T laid k noValue 0 0 h m (omega arith)
       (λ v f s w. rw (← tests, le-ltb k n l, w .unset) refl)

@@ -1,7 +1,7 @@
 -- What tests see, put into its list one after another; and the atoms that the tests laid out give of it.
 -- Assumes nothing.
 use Prim.Native.Nat.{ℕ, zero, suc, _+_, _-_, _*_, _≤_, _<_}
-use mathlib.Core.Path.{_≡_, refl, sym, ap, _∙_}
+use mathlib.Core.Path.{_≡_, refl, sym, _∙_}
 use mathlib.Core.Logic.{⊎-elim, _≢_}
 use mathlib.Core.Bool.{Bool, true, false}
 use mathlib.Core.List.{List, [], _∷_}
@@ -13,7 +13,7 @@ use lib.ListN.{length, getD, set, length-set}
 use lib.Seq.{getD-set-same, getD-set-other}
 use Rattle.bits.specs.Bits.{digit}
 use Rattle.controller.specs.State.{none, stop, valueAt, stateAt, statesOf}
-use Rattle.controller.specs.Same.{sameSeen}
+use Rattle.controller.specs.Seen.{sameSeen}
 use Rattle.controller.specs.declared.Controller.{Controller}
 use Rattle.controller.proofs.Arrays.{inside}
 use Rattle.controller.proofs.Equal.{same-seen-equal}

@@ -2,13 +2,14 @@
 -- Assumes nothing: these are definitions.
 use Prim.Native.Nat.{ℕ, _+_, _-_, _*_, _<_}
 use mathlib.Core.Path.{_≡_}
-use mathlib.Core.Bool.{Bool, false}
+use mathlib.Core.Bool.{Bool}
 use mathlib.Core.List.{List}
 use lib.ListN.{length, getD}
 use lib.Dec.{ltb, eqb}
 use Rattle.ranges.specs.Values.{pick}
 use Rattle.lookups.specs.declared.TestRow.{TestRow}
 use Rattle.controller.specs.State.{none, stop, valueAt, stateAt}
+use Rattle.controller.specs.Tests.{compares}
 use Rattle.scan.specs.Guards.{atomOf}
 
 -- What tests see, as one list: 32 variables, the functional states of 8 processes, and behind them what is found where there is no such variable and no such process.
@@ -48,7 +49,7 @@ equals t = pick (eqb (t .kind) 2) 1 (pick (eqb (t .kind) 0) 1 0)
 
 -- Whether a test holds of what it looks at.
 unfoldable pub asked : ℕ → ℕ → ℕ → Bool
-asked equal b x = pick (eqb x none) false (pick (eqb equal 1) (eqb x b) (ltb b x))
+asked equal b x = compares (eqb equal 1) b x
 
 -- Atom k by the tests laid out.
 abbrev pub laidAtom : List ℕ → List ℕ → ℕ → Bool

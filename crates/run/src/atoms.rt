@@ -12,28 +12,29 @@ ghost use Rattle.run.specs.Atoms.{processPlace, looksAt, equals, asked, 
 // Room for 32 tests of three numbers each: where the test looks, the number that it compares with, and 1 where the two are to be equal.
 pub const LAID_OUT: usize = 96;
 
-const MOST_TESTS: u16 = 32;
-
-// What tests see: 32 variables, the functional states of 8 processes, no value, and stop.
+// What tests see has 42 places: first the variables, then the functional states of the processes, then what is found where there is no such variable (no value) and where
+// there is no such process (stop).
 const SEEN: usize = 42;
 
-const FIRST_STATE: u16 = 32;
+const VARIABLES: usize = 32;
 
-const NO_VALUE: u32 = 40;
+const PROCESSES: usize = 8;
 
-const STOPPED: u32 = 41;
+const NO_VALUE_PLACE: usize = 40;
 
-// Where a test of process i looks.
+const STOP_PLACE: usize = 41;
+
+// Where a test of process i looks: it is counted from 1, and 0 is taken for 1.
 fn process_place(i: u16) -> u32
     ensures { λ r. ⌜ r ≡ processPlace i ⌝ }
 {
     if i == 0 {
-        return FIRST_STATE as u32;
+        return VARIABLES as u32;
     }
-    if 8 < i {
-        return STOPPED;
+    if PROCESSES < i as usize {
+        return STOP_PLACE as u32;
     }
-    (FIRST_STATE + i - 1) as u32
+    VARIABLES as u32 + i as u32 - 1
 }
 
 // Where a test looks.
@@ -43,10 +44,10 @@ fn looks_at(test: TestRow) -> u32
     if test.kind == 2 {
         return process_place(test.a);
     }
-    if test.a < FIRST_STATE {
+    if (test.a as usize) < VARIABLES {
         return test.a as u32;
     }
-    NO_VALUE
+    NO_VALUE_PLACE as u32
 }
 
 // Whether a test asks for an equal number: kinds 0 and 2.
@@ -74,7 +75,7 @@ fn lay_out_test(table: &[u16], k: u16, laid: &mut [u32])
         laid[at + 1] = test.b as u32;
         laid[at + 2] = equals(test);
     } else {
-        laid[at] = NO_VALUE;
+        laid[at] = NO_VALUE_PLACE as u32;
         laid[at + 1] = 0;
         laid[at + 2] = 0;
     }
@@ -86,7 +87,7 @@ pub fn lay_out(table: &[u16], laid: &mut [u32])
     ensures { λ _. ⌜ LaidOut (now (table .entry)) (now (laid .exit)) ⌝ }
 {
     let mut k: u16 = 0;
-    while k < MOST_TESTS {
+    while k < ranges::MOST_TESTS {
         lay_out_test(table, k, laid);
         k += 1;
     }
@@ -98,7 +99,7 @@ fn see_values(values: [u32; 32], seen: &mut [u32])
     ensures { λ _. ⌜ SeesValues values (now (seen .entry)) (now (seen .exit)) ⌝ }
 {
     let mut x: usize = 0;
-    while x < 32 {
+    while x < VARIABLES {
         seen[x] = values[x];
         x += 1;
     }
@@ -113,25 +114,19 @@ fn see(c: Controller, seen: &mut [u32])
     see_values(values, seen);
     let states = c.states();
     let mut i: usize = 0;
-    while i < 8 {
-        seen[32 + i] = states[i] as u32;
+    while i < PROCESSES {
+        seen[VARIABLES + i] = states[i] as u32;
         i += 1;
     }
-    seen[40] = controller::NONE;
-    seen[41] = 0;
+    seen[NO_VALUE_PLACE] = controller::NONE;
+    seen[STOP_PLACE] = 0;
 }
 
-// Whether a test holds of what it looks at. No test of an unset variable does.
+// Whether a test holds of what it looks at.
 fn asked(equal: u32, b: u32, x: u32) -> bool
     ensures { λ r. ⌜ r ≡ asked equal b x ⌝ }
 {
-    if x == controller::NONE {
-        return false;
-    }
-    if equal == 1 {
-        return x == b;
-    }
-    b < x
+    controller::tests::compares(equal == 1, b, x)
 }
 
 // The byte of the eight atoms from atom `from` on, the first the lowest digit.

@@ -31,7 +31,7 @@ pub struct Running {
 const MOST_SCANS: usize = 1365;
 const MOST_POSITIONS: usize = 4096;
 
-/// None below it makes such a requirement as is sought.
+/// The search begins here, as from 0 on it takes seconds. What it ends with is checked to be such as is sought.
 const FIRST_SEED: u64 = 363_619;
 
 /// A requirement of 64 nodes, 8 deep, with every operator and every mark. It fails at some Inputs and holds at others.

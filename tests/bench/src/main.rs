@@ -3,8 +3,9 @@
 //!     bench [SAMPLES [TASK]]
 //!
 //! Prints the median nanoseconds of a call of each side, and the median of their ratios. Before a task is timed, both
-//! sides must give the same answer and leave the same bytes. No time is demanded here. TASK restricts it to the tasks
-//! whose name has that text. What stands behind a semicolon says which peer it is.
+//! sides must give the same answer and leave the same bytes in what both are lent. Judging's `work` is not looked at: the
+//! peers have rows of their own instead. No time is demanded here. TASK restricts it to the tasks whose name has that
+//! text. What stands behind a semicolon says which peer it is.
 //!
 //! The workspace's settings free this crate of the checks of overflow that the other crates have: a peer written for
 //! speed has none.

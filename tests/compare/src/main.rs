@@ -333,11 +333,11 @@ fn judgings(random: &mut Random, tally: &mut Tally) -> Result<(), String> {
         1..=600 => random::damaged_judging_case(random),
         _ => random::judging_case(random),
     };
-    judge_both("judge", &case, tally)
+    judge_both("judge", &case, random, tally)
 }
 
 /// A judging of either kind; where it is accepted and untranslated, the translation's judging too must say the same.
-fn judge_both(entry: &'static str, case: &JudgingCase, tally: &mut Tally) -> Result<(), String> {
+fn judge_both(entry: &'static str, case: &JudgingCase, random: &mut Random, tally: &mut Tally) -> Result<(), String> {
     let (mut my_work, mut my_list) = (case.work.clone(), case.list.clone());
     let (mut their_work, mut their_list) = (case.work.clone(), case.list.clone());
     let translated = case.which == Which::Translated;
@@ -348,12 +348,27 @@ fn judge_both(entry: &'static str, case: &JudgingCase, tally: &mut Tally) -> Res
     same(entry, &(given, my_work, my_list.clone()), &(wanted, their_work, their_list), &input)?;
     tally.note(entry, given.refusal);
     if given.refusal == 0 && !translated {
-        let mut plain = vec![0; translation::ROOM];
-        let length = calls::translate(&case.code, &mut plain).first as usize;
-        let mut work = vec![1; 76 * 512];
-        let mut list = case.list.clone();
-        let again = calls::judge(true, &plain[..length], &case.trace, case.loop_start, &mut work, &mut list);
-        same("judge of the translation", &(again, list), &(given, my_list), &input)?;
+        judge_translation(case, &(given, my_list), random)?;
     }
     Ok(())
+}
+
+/// The requirement's translation on the same trace. Its judging is held against the checker's own judging of the
+/// requirement, and on purpose: the translation must be answered as the requirement is.
+fn judge_translation(case: &JudgingCase, judged: &(Told, Vec<u8>), random: &mut Random) -> Result<(), String> {
+    let mut plain = random.bytes(translation::ROOM);
+    let mut their_plain = plain.clone();
+    let given = calls::translate(&case.code, &mut plain);
+    let wanted = counted(translation::translate(&case.code, &mut their_plain));
+    same("translate, before a judging,", &(given, &plain), &(wanted, &their_plain), &case.code)?;
+
+    // The work that the deepest translation needs on the longest trace.
+    let mut work = random.bytes(76 * 512);
+    let mut list = case.list.clone();
+    let code = &plain[..given.first as usize];
+    let again = calls::judge(true, code, &case.trace, case.loop_start, &mut work, &mut list);
+    let input = (&case.code, &case.trace, case.loop_start, case.list.len());
+    same("judge of the translation", &(again, list), judged, &input)?;
+    let left = work.iter().position(|byte| *byte != 0);
+    same("judge of the translation, at the first byte of work that is not zero,", &left, &None, &input)
 }

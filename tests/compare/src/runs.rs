@@ -76,7 +76,7 @@ fn judge_run(random: &mut Random, lasso: MadeTrace, tests: usize, tally: &mut Ta
     let which = if !long && random.once_in(4) { Which::Translated } else { Which::Untranslated };
     let numbers = requirement_for(random, which, &lasso, tests);
     let case = random::judging_case_of(random, which, MadeQuestion { numbers, lasso });
-    judge_both("judge a run's trace", &case, tally)
+    judge_both("judge a run's trace", &case, random, tally)
 }
 
 /// The extreme sizes of a run whose table is well-formed.

@@ -1,6 +1,6 @@
 use mathlib.Core.Path.{refl}
 use borrow.Author.Tests.{not-true, not-false}
-use Rattle.controller.specs.Same.{sameSeen}
+use Rattle.controller.specs.Seen.{sameSeen}
 use borrow.Author.Needs.{needs}
 use Rattle.controller.proofs.Controller.seen_as.Statement.{statement}
 use Rattle.controller.proofs.Controller.seen_as.Tie as tie

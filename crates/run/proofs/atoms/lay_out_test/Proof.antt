@@ -53,6 +53,9 @@ mul-laid-3 c = search needs
 slice-write-laid-3 : tie.Need-slice-write-laid-3
 slice-write-laid-3 c = let n = c .before .before .before .before .before .before .before .before .pre .1 .reach .size in simp length-set (omega (arith, n))
 
+cast-laid-2 : tie.Need-cast-laid-2
+cast-laid-2 c = search needs
+
 mul-laid-4 : tie.Need-mul-laid-4
 mul-laid-4 c = search needs
 
@@ -107,6 +110,7 @@ lay-out-test-spec =
     add-laid-2
     mul-laid-3
     slice-write-laid-3
+    cast-laid-2
     mul-laid-4
     slice-write-laid-4
     add-laid-3
