@@ -15,7 +15,7 @@ use Rattle.meaning.specs.Phases.{Phase-discrete}
 use Rattle.bits.specs.Bits.{bitB, bitAt}
 use Rattle.bits.proofs.Bytes.{at-drop, part-before, part-is}
 use Rattle.lasso.specs.Bytes.{positions, phaseFrom, phaseByte}
-use Rattle.judge.specs.Working.{Same, isAt, row4096, digitIn, markPlace, Marked}
+use Rattle.judge.specs.Working.{Same, isAt, longestRow, digitIn, markPlace, Marked}
 
 -- A test of the two low digits that holds of the bytes of this phase alone.
 abbrev tellsOf : Phase → Bool → Bool → Bool
@@ -38,36 +38,36 @@ phase-digits (suc (suc (suc x))) p h = absurd (omega arith)
 
 -- ---- the rows of the two digits put behind the first, and the first filled from them
 abbrev withExe : List ℕ → List ℕ → List ℕ
-withExe m a = putMid row4096 row4096 m a
+withExe m a = putMid longestRow longestRow m a
 
 abbrev withBoth : List ℕ → List ℕ → List ℕ → List ℕ
-withBoth m a b = putMid (2 * row4096) row4096 (withExe m a) b
+withBoth m a b = putMid (2 * longestRow) longestRow (withExe m a) b
 
-module _ (m a b : List ℕ) (size : length m ≡ 3 * row4096) (exe-long : length a ≡ length (midOf row4096 row4096 m))
-    (output-long : length b ≡ length (midOf (2 * row4096) row4096 (withExe m a))) where
-  exe-size : length (withExe m a) ≡ 3 * row4096
-  exe-size = same-len-mid row4096 row4096 m a exe-long ∙ size
+module _ (m a b : List ℕ) (size : length m ≡ 3 * longestRow) (exe-long : length a ≡ length (midOf longestRow longestRow m))
+    (output-long : length b ≡ length (midOf (2 * longestRow) longestRow (withExe m a))) where
+  exe-size : length (withExe m a) ≡ 3 * longestRow
+  exe-size = same-len-mid longestRow longestRow m a exe-long ∙ size
 
-  both-size : length (withBoth m a b) ≡ 3 * row4096
-  both-size = same-len-mid (2 * row4096) row4096 (withExe m a) b output-long ∙ exe-size
+  both-size : length (withBoth m a b) ≡ 3 * longestRow
+  both-size = same-len-mid (2 * longestRow) longestRow (withExe m a) b output-long ∙ exe-size
 
-  at-exe : (p : ℕ) → p < 8 * row4096 → bitAt (drop row4096 (withBoth m a b)) p ≡ bitAt a p
+  at-exe : (p : ℕ) → p < 8 * longestRow → bitAt (drop longestRow (withBoth m a b)) p ≡ bitAt a p
   at-exe p l =
-      let k : length a ≡ row4096 = exe-long ∙ mid-len row4096 (2 * row4096) m (omega arith) in
-      at-drop row4096 (withBoth m a b) p
-      ∙ part-before (2 * row4096) row4096 (withExe m a) b (omega (arith, exe-size)) (8 * row4096 + p) (omega arith)
-      ∙ sym (at-drop row4096 (withExe m a) p)
-      ∙ part-is row4096 row4096 m a (omega arith) p (omega arith)
+      let k : length a ≡ longestRow = exe-long ∙ mid-len longestRow (2 * longestRow) m (omega arith) in
+      at-drop longestRow (withBoth m a b) p
+      ∙ part-before (2 * longestRow) longestRow (withExe m a) b (omega (arith, exe-size)) (8 * longestRow + p) (omega arith)
+      ∙ sym (at-drop longestRow (withExe m a) p)
+      ∙ part-is longestRow longestRow m a (omega arith) p (omega arith)
 
-  at-output : (p : ℕ) → p < 8 * row4096 → bitAt (drop (2 * row4096) (withBoth m a b)) p ≡ bitAt b p
+  at-output : (p : ℕ) → p < 8 * longestRow → bitAt (drop (2 * longestRow) (withBoth m a b)) p ≡ bitAt b p
   at-output p l =
-      let k : length b ≡ row4096 = output-long ∙ mid-len (2 * row4096) (3 * row4096) (withExe m a) (omega (arith, exe-size)) in
-      part-is (2 * row4096) row4096 (withExe m a) b (omega (arith, exe-size)) p (omega arith)
+      let k : length b ≡ longestRow = output-long ∙ mid-len (2 * longestRow) (3 * longestRow) (withExe m a) (omega (arith, exe-size)) in
+      part-is (2 * longestRow) longestRow (withExe m a) b (omega (arith, exe-size)) p (omega arith)
 
   module _ (t v : List ℕ) (few : positions t ≤ 4096) (phases : (p : ℕ) → p < positions t → phaseByte t p ≤ 2)
       (exe : Same (positions t) (bitAt a) (digitIn t 0 0)) (output : Same (positions t) (bitAt b) (digitIn t 0 1)) (long : length v ≡ length (withBoth m a b))
-      (first : (p : ℕ) → p < 8 * row4096 → bitAt v p ≡ not (bitAt (drop row4096 (withBoth m a b)) p || bitAt (drop (2 * row4096) (withBoth m a b)) p))
-      (kept : drop row4096 v ≡ drop row4096 (withBoth m a b)) where
+      (first : (p : ℕ) → p < 8 * longestRow → bitAt v p ≡ not (bitAt (drop longestRow (withBoth m a b)) p || bitAt (drop (2 * longestRow) (withBoth m a b)) p))
+      (kept : drop longestRow v ≡ drop longestRow (withBoth m a b)) where
     told : (phase : Phase) (p : ℕ) → p < positions t → tellsOf phase (bitAt a p) (bitAt b p) ≡ isAt t phase p
     told phase p l =
         let low : bitAt a p ≡ bitB (phaseByte t p) 0 = exe p l ∙ ap (λ (i : ℕ). bitB (getD t i 0) 0) (add-zero (p * 5)) in
@@ -78,7 +78,7 @@ module _ (m a b : List ℕ) (size : length m ≡ 3 * row4096) (exe-long : length
     row-of Input p l = first p (omega arith) ∙ ap₂ (λ (x y : Bool). not (x || y)) (at-exe p (omega arith)) (at-output p (omega arith)) ∙ told Input p l
     row-of Exe p l = ap (λ (s : List ℕ). bitAt s p) kept ∙ at-exe p (omega arith) ∙ told Exe p l
     row-of Output p l =
-        let e : drop (2 * row4096) v ≡ drop (2 * row4096) (withBoth m a b) = sym (drop-drop row4096 row4096 v) ∙ ap (drop row4096) kept ∙ drop-drop row4096 row4096 (withBoth m a b) in
+        let e : drop (2 * longestRow) v ≡ drop (2 * longestRow) (withBoth m a b) = sym (drop-drop longestRow longestRow v) ∙ ap (drop longestRow) kept ∙ drop-drop longestRow longestRow (withBoth m a b) in
         ap (λ (s : List ℕ). bitAt s p) e ∙ at-output p (omega arith) ∙ told Output p l
 
     pub marked : Marked t v

@@ -15,7 +15,6 @@ use Rattle.requirement.specs.declared.Phase.{Phase}
 use Rattle.requirement.specs.declared.Phase.the-variants.{Input, Exe, Output}
 use Rattle.meaning.specs.Phases.{Phase-discrete}
 use Rattle.requirement.specs.declared.Family.{Family}
-use Rattle.requirement.specs.declared.Family.the-variants.{Within}
 use Rattle.requirement.specs.declared.One.{One}
 use Rattle.requirement.specs.declared.One.the-variants.{Next, Ever, Always}
 use Rattle.requirement.specs.declared.Two.{Two}
@@ -38,8 +37,8 @@ abbrev pub isAt : List ℕ → Phase → ℕ → Bool
 isAt trace phase p = decide (Phase-discrete (phaseFrom (phaseByte trace p)) phase)
 
 -- The bytes of a row of 4,096 positions, the most there are.
-abbrev pub row4096 : ℕ
-row4096 = 512
+abbrev pub longestRow : ℕ
+longestRow = 512
 
 -- Digit k of one of the five bytes of position p.
 abbrev pub digitIn : List ℕ → ℕ → ℕ → ℕ → Bool
@@ -47,10 +46,10 @@ digitIn trace column k p = bitB (getD trace (p * 5 + column) 0) k
 
 -- The rows of the three phases, one behind the other: where each phase stands.
 abbrev pub markPlace : Phase → ℕ
-markPlace phase = phaseNumber phase * row4096
+markPlace phase = phaseNumber phase * longestRow
 
 pub record Marked (trace marks : List ℕ) : Type 0 where
-  pub size : length marks ≡ 3 * row4096
+  pub size : length marks ≡ 3 * longestRow
   pub rows : (phase : Phase) → Same (positions trace) (bitAt (drop (markPlace phase) marks)) (isAt trace phase)
 
 -- A well-formed trace as far as rows need it, with room for so many rows.
@@ -78,9 +77,6 @@ alwaysOf t family row = oneOf t (Always family) row
 
 abbrev pub untilOf : Trace → Family → (ℕ → Bool) → (ℕ → Bool) → ℕ → Bool
 untilOf t family row second = twoOf t (Until family) row second
-
-abbrev pub within : Family
-within = Within
 
 -- (not phase) U (phase and row)
 abbrev pub reachOf : Trace → Phase → (ℕ → Bool) → ℕ → Bool

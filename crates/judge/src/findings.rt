@@ -75,7 +75,7 @@ pub fn count_row(row: &[u8]) -> usize
     sum
 }
 
-// Puts a position, low byte first, as far as there is room. The place after it.
+// Puts a position into the list, low byte first, where there is room for both of its bytes. The place after it.
 fn put_position(p: usize, list: &mut [u8], at: usize) -> usize
     requires { ⌜ (p < 4096) × (at ≤ length (now list)) ⌝ }
     ensures { λ r. ⌜ PutPosition p (now (list .entry)) at (now (list .exit)) r ⌝ }

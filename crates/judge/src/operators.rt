@@ -16,7 +16,7 @@ ghost use Rattle.meaning.specs.Translation.{implies};
 ghost use Rattle.bits.specs.Bits.{bitAt};
 ghost use Rattle.bits.specs.Rows.{rowOf};
 ghost use Rattle.lasso.specs.Bytes.{positions, traceOf};
-ghost use Rattle.judge.specs.Working.{Same, isAt, markPlace, Marked, Room, oneOf, twoOf, everOf, alwaysOf, nextOf, untilOf, within, reachOf};
+ghost use Rattle.judge.specs.Working.{Same, isAt, markPlace, Marked, Room, oneOf, twoOf, everOf, alwaysOf, nextOf, untilOf, reachOf};
 
 // The phase at an end of a scan.
 fn phase_of(end: End) -> Phase
@@ -195,7 +195,7 @@ fn next_in(family: Family, trace: &[u8], start: usize, marks: &[u8], work: &mut 
 // F^e: (not Output) U (Exe and row).
 fn ever_within(trace: &[u8], start: usize, marks: &[u8], work: &mut [u8])
     requires { ⌜ Room 2 (now trace) start (now work) × Marked (now trace) (now marks) ⌝ }
-    ensures { λ _. ⌜ Same (positions (now (trace .entry))) (bitAt (now (work .exit))) (everOf (traceOf (now (trace .entry)) start) within (bitAt (now (work .entry)))) ⌝ }
+    ensures { λ _. ⌜ Same (positions (now (trace .entry))) (bitAt (now (work .exit))) (everOf (traceOf (now (trace .entry)) start) Family.Within (bitAt (now (work .entry)))) ⌝ }
 {
     before(trace, start, marks, Phase::Output, Phase::Exe, work);
 }
@@ -231,7 +231,7 @@ fn fill_second(trace: &[u8], start: usize, marks: &[u8], phase: Phase, work: &mu
 // G^e: (row and Exe) U Output.
 fn always_within(trace: &[u8], start: usize, marks: &[u8], work: &mut [u8])
     requires { ⌜ Room 2 (now trace) start (now work) × Marked (now trace) (now marks) ⌝ }
-    ensures { λ _. ⌜ Same (positions (now (trace .entry))) (bitAt (now (work .exit))) (alwaysOf (traceOf (now (trace .entry)) start) within (bitAt (now (work .entry)))) ⌝ }
+    ensures { λ _. ⌜ Same (positions (now (trace .entry))) (bitAt (now (work .exit))) (alwaysOf (traceOf (now (trace .entry)) start) Family.Within (bitAt (now (work .entry)))) ⌝ }
 {
     keep(trace, start, marks, Phase::Exe, work);
     fill_second(trace, start, marks, Phase::Output, work);
@@ -292,7 +292,7 @@ fn keep_second(trace: &[u8], start: usize, marks: &[u8], phase: Phase, work: &mu
 fn until_within(trace: &[u8], start: usize, marks: &[u8], work: &mut [u8])
     requires { ⌜ Room 2 (now trace) start (now work) × Marked (now trace) (now marks) ⌝ }
     ensures { λ _. ⌜ Same (positions (now (trace .entry))) (bitAt (now (work .exit)))
-        (untilOf (traceOf (now (trace .entry)) start) within (bitAt (now (work .entry))) (bitAt (drop (rowOf (positions (now (trace .entry)))) (now (work .entry))))) ⌝ }
+        (untilOf (traceOf (now (trace .entry)) start) Family.Within (bitAt (now (work .entry))) (bitAt (drop (rowOf (positions (now (trace .entry)))) (now (work .entry))))) ⌝ }
 {
     let row = (trace.len() / 5 + 7) / 8;
     keep(trace, start, marks, Phase::Exe, &mut work[0..row]);

@@ -8,7 +8,7 @@ ghost use Rattle.meaning.specs.Rows.{walk};
 ghost use Rattle.bits.specs.Bits.{bitB, putB, bitAt, digit};
 ghost use Rattle.bits.specs.Rows.{rowOf, afterOf, untilOn, untilB, carryB, Padded, Packs, wordAt, putWord, carryW, Stepped};
 ghost use Rattle.lasso.specs.Bytes.{positions, phaseByte, atomB};
-ghost use Rattle.judge.specs.Working.{row4096, digitIn, Marked};
+ghost use Rattle.judge.specs.Working.{longestRow, digitIn, Marked};
 
 // The bytes of a row of 4,096 positions, the most there are.
 pub const ROW: usize = 512;
@@ -331,10 +331,10 @@ pub fn fill_atom(trace: &[u8], a: usize, work: &mut [u8])
 
 // The first row becomes what neither of the two behind it has.
 fn fill_neither(marks: &mut [u8])
-    requires { ⌜ length (now marks) ≡ 3 * row4096 ⌝ }
-    ensures { λ _. ⌜ ((p : ℕ) → p < 8 * row4096 → bitAt (now (marks .exit)) p
-        ≡ not (bitAt (drop row4096 (now (marks .entry))) p || bitAt (drop (2 * row4096) (now (marks .entry))) p))
-        × (drop row4096 (now (marks .exit)) ≡ drop row4096 (now (marks .entry))) ⌝ }
+    requires { ⌜ length (now marks) ≡ 3 * longestRow ⌝ }
+    ensures { λ _. ⌜ ((p : ℕ) → p < 8 * longestRow → bitAt (now (marks .exit)) p
+        ≡ not (bitAt (drop longestRow (now (marks .entry))) p || bitAt (drop (2 * longestRow) (now (marks .entry))) p))
+        × (drop longestRow (now (marks .exit)) ≡ drop longestRow (now (marks .entry))) ⌝ }
 {
     let mut i = 0;
     while i < ROW {
@@ -345,7 +345,7 @@ fn fill_neither(marks: &mut [u8])
 
 // The rows of the phases of a trace whose phase bytes are 0, 1 and 2: their low digit is Exe, the next is Output, and Input has neither.
 pub fn fill_marks(trace: &[u8], marks: &mut [u8])
-    requires { ⌜ (positions (now trace) ≤ 4096) × ((p : ℕ) → p < positions (now trace) → phaseByte (now trace) p ≤ 2) × (length (now marks) ≡ 3 * row4096) ⌝ }
+    requires { ⌜ (positions (now trace) ≤ 4096) × ((p : ℕ) → p < positions (now trace) → phaseByte (now trace) p ≤ 2) × (length (now marks) ≡ 3 * longestRow) ⌝ }
     ensures { λ _. ⌜ Marked (now (trace .entry)) (now (marks .exit)) ⌝ }
 {
     fill_digit(trace, 0, 0, &mut marks[ROW..2 * ROW]);

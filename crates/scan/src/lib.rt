@@ -1,4 +1,4 @@
-// What a scan does beside its actions: tests and guards on a state, the read, the write, and the bytes of a state in the trace.
+// What a scan does beside its actions: guards on a state, the read, the write; and a position put into the trace.
 use controller::Controller;
 use lookups::ActionRow;
 use lookups::TestRow;

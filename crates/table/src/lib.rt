@@ -1,4 +1,4 @@
-// The reader and the writer of tables and of inputs records: each number is checked by the machine of `ranges`, from bytes or from numbers.
+// The reader and the writer of tables and of inputs records, from bytes or from numbers: what may stand where is said by `ranges`, number by number.
 mod skips;
 mod tests;
 

@@ -1,5 +1,5 @@
-// What a record has most of, gone over quickly: the actions of a body but its last, and the readings but the last. A number at fault is left to the look itself,
-// which says what is refused and where.
+// What a record has most of, gone over quickly: the actions of a body and the readings of inputs. The last of them is left to the look itself, since something else may
+// come after it; and so is a number at fault, since the look says what is refused and where.
 use coding::Number;
 use ranges::Shape;
 use ranges::Spot;
@@ -16,7 +16,17 @@ pub struct Stand {
     pub count: usize,
 }
 
-// The last number of an action. The place after it, or 0 where it is at fault; and so for the numbers before it.
+fn stand_at(want: Want, at: usize, count: usize) -> Stand
+    ensures { λ r. ⌜ r ≡ record { want = want; at = at; count = count } ⌝ }
+{
+    Stand {
+        want: want,
+        at: at,
+        count: count,
+    }
+}
+
+// The last number of an action, next-else: the place after it, or 0, where no number ends, if it is at fault.
 fn take_else(
     shape: Shape,
     spot: Spot,
@@ -41,6 +51,7 @@ fn take_else(
     }
 }
 
+// Next-if, and what follows it.
 fn take_nexts(
     shape: Shape,
     spot: Spot,
@@ -65,6 +76,7 @@ fn take_nexts(
     }
 }
 
+// The guard of an action, and what follows it.
 fn take_guard(
     shape: Shape,
     spot: Spot,
@@ -88,6 +100,7 @@ fn take_guard(
     }
 }
 
+// The number y of an action, and what follows it.
 fn take_y(
     shape: Shape,
     spot: Spot,
@@ -111,6 +124,7 @@ fn take_y(
     }
 }
 
+// The number x of an action, and what follows it.
 fn take_x(
     shape: Shape,
     spot: Spot,
@@ -134,7 +148,7 @@ fn take_x(
     }
 }
 
-// An action that is not the last of its body.
+// The six numbers of an action that is not the last of its body.
 fn take_action(
     shape: Shape,
     spot: Spot,
@@ -176,23 +190,13 @@ fn skip_actions(
     while here.action < here.actions {
         let next = take_action(shape, here, from_bytes, code, numbers, at);
         if next == 0 {
-            let want = Want::Op(shape, here);
-            return Stand {
-                want: want,
-                at: at,
-                count: count,
-            };
+            return stand_at(Want::Op(shape, here), at, count);
         }
         here.action = here.action + 1;
         at = next;
         count += 6;
     }
-    let want = Want::Op(shape, here);
-    Stand {
-        want: want,
-        at: at,
-        count: count,
-    }
+    stand_at(Want::Op(shape, here), at, count)
 }
 
 // From a reading on to the last, or to one with a fault.
@@ -213,12 +217,7 @@ fn skip_readings(
     while 1 < left {
         match coding::number_at(from_bytes, code, numbers, at) {
             Number::Fault(_, _) => {
-                let want = Want::Reading(left);
-                return Stand {
-                    want: want,
-                    at: at,
-                    count: count,
-                };
+                return stand_at(Want::Reading(left), at, count);
             }
             Number::Value(_, next) => {
                 left -= 1;
@@ -227,12 +226,7 @@ fn skip_readings(
             }
         }
     }
-    let want = Want::Reading(left);
-    Stand {
-        want: want,
-        at: at,
-        count: count,
-    }
+    stand_at(Want::Reading(left), at, count)
 }
 
 // From where the look stands as far on as nothing is at fault, nothing is to be kept and the end is not reached.
@@ -250,10 +244,6 @@ pub fn skip(
     match want {
         Want::Op(shape, spot) => skip_actions(shape, spot, from_bytes, code, numbers, at, count),
         Want::Reading(left) => skip_readings(left, from_bytes, code, numbers, at, count),
-        _ => Stand {
-            want: want,
-            at: at,
-            count: count,
-        },
+        _ => stand_at(want, at, count),
     }
 }

@@ -6,7 +6,7 @@ use lib.ListN.{getD, drop}
 use lib.Bits.{or-lt}
 use Rattle.bits.specs.Bits.{bitAt}
 use Rattle.bits.proofs.Bytes.{Made, made-none, made-more, made-rest}
-use Rattle.judge.specs.Working.{row4096}
+use Rattle.judge.specs.Working.{longestRow}
 use Rattle.judge.proofs.Packing.{packs-behind, packs-neither}
 use borrow.Author.Needs.{needs}
 use Rattle.judge.proofs.rows.fill_neither.Statement.{statement}
@@ -15,10 +15,10 @@ use Rattle.judge.proofs.rows.fill_neither.Reads as reads
 use Rattle.judge.proofs.rows.fill_neither.Lts as lts
 
 abbrev Inv-loop : tie.InvT-loop
-Inv-loop marks₀ i₀ marks i = (i ≤ row4096) × Made (λ p. not (bitAt (drop row4096 marks₀) p || bitAt (drop (2 * row4096) marks₀) p)) marks₀ i marks
+Inv-loop marks₀ i₀ marks i = (i ≤ longestRow) × Made (λ p. not (bitAt (drop longestRow marks₀) p || bitAt (drop (2 * longestRow) marks₀) p)) marks₀ i marks
 
 abbrev μ-loop : tie.MeasureT-loop
-μ-loop marks₀ i₀ marks i = row4096 - i
+μ-loop marks₀ i₀ marks i = longestRow - i
 
 loop-holds : tie.Need-loop-holds Inv-loop μ-loop
 loop-holds c = (omega arith, made-none _ _)
@@ -41,9 +41,9 @@ slice-read-marks-2 c = search needs
 sub-marks : tie.Need-sub-marks Inv-loop μ-loop
 sub-marks c =
     let l = c .before .before .before .loop in
-    let x = c .before .slice-known .given (row4096 + l .i) in
-    let y = c .slice-known2 .given (2 * row4096 + l .i) in
-    omega (arith, or-lt 8 (getD (l .marks) (row4096 + l .i) 0) (getD (l .marks) (2 * row4096 + l .i) 0) (omega arith) (omega arith))
+    let x = c .before .slice-known .given (longestRow + l .i) in
+    let y = c .slice-known2 .given (2 * longestRow + l .i) in
+    omega (arith, or-lt 8 (getD (l .marks) (longestRow + l .i) 0) (getD (l .marks) (2 * longestRow + l .i) 0) (omega arith) (omega arith))
 
 slice-write-marks : tie.Need-slice-write-marks Inv-loop μ-loop
 slice-write-marks c = search needs
@@ -57,10 +57,10 @@ loop-less c = search needs
 loop-again : tie.Need-loop-again Inv-loop μ-loop
 loop-again c =
     let l = c .before .before .before .loop in
-    let x = c .before .slice-known .given (row4096 + l .i) in
-    let y = c .slice-known2 .given (2 * row4096 + l .i) in
+    let x = c .before .slice-known .given (longestRow + l .i) in
+    let y = c .slice-known2 .given (2 * longestRow + l .i) in
     let h = l .inv .1 in
-    (omega arith, made-more _ (omega arith) (packs-neither _ _ _ _ _ (omega arith) (omega arith) (packs-behind row4096 h) (packs-behind (2 * row4096) h)) h)
+    (omega arith, made-more _ (omega arith) (packs-neither _ _ _ _ _ (omega arith) (omega arith) (packs-behind longestRow h) (packs-behind (2 * longestRow) h)) h)
 
 same-length : tie.Need-same-length Inv-loop μ-loop
 same-length c = c .before .loop .inv .1 .size
@@ -68,7 +68,7 @@ same-length c = c .before .loop .inv .1 .size
 returns : tie.Need-returns Inv-loop μ-loop
 returns c =
     let l = c .before .loop in
-    let e : l .i ≡ row4096 = omega arith in
+    let e : l .i ≡ longestRow = omega arith in
     (λ p h. l .inv .1 .done p (omega arith), rw e at (made-rest (l .inv .1)))
 
 pub fill-neither-spec : {M : Type 1} → statement M

@@ -8,6 +8,7 @@ use Rattle.table.proofs.skips.skip_actions.Statement.{statement}
 use Rattle.table.proofs.skips.skip_actions.Tie as tie
 use Rattle.table.proofs.skips.skip_actions.Reads as reads
 use Rattle.table.proofs.skips.skip_actions.Lts as lts
+use Rattle.table.proofs.skips.stand_at.Reads as stand-at-reads
 use Rattle.table.proofs.skips.take_action.Reads as take-action-reads
 
 abbrev Inv-loop : tie.InvT-loop
@@ -22,8 +23,11 @@ loop-holds c = stays
 take-action-requires : tie.Need-take-action-requires Inv-loop μ-loop
 take-action-requires c κs = search needs
 
+stand-at-requires : tie.Need-stand-at-requires Inv-loop μ-loop
+stand-at-requires c κs = search needs
+
 returns : tie.Need-returns Inv-loop μ-loop
-returns c = c .before .before .before .before .loop .inv
+returns c = rw (c .stand-at .ensures) (c .before .before .before .before .before .loop .inv)
 
 add-here : tie.Need-add-here Inv-loop μ-loop
 add-here c = search needs
@@ -37,8 +41,11 @@ loop-less c = search needs
 loop-again : tie.Need-loop-again Inv-loop μ-loop
 loop-again c = acted (c .before .before .before .before .before .loop .inv) (c .before .before .take-action .ensures) (c .before .if2 .left)
 
+stand-at-requires-2 : tie.Need-stand-at-requires-2 Inv-loop μ-loop
+stand-at-requires-2 c κs = search needs
+
 returns-2 : tie.Need-returns-2 Inv-loop μ-loop
-returns-2 c = c .before .before .loop .inv
+returns-2 c = rw (c .stand-at2 .ensures) (c .before .before .before .loop .inv)
 
 pub skip-actions-spec : {M : Type 1} → statement M
 skip-actions-spec =
@@ -48,9 +55,11 @@ skip-actions-spec =
     μ-loop
     loop-holds
     take-action-requires
+    stand-at-requires
     returns
     add-here
     add-count
     loop-less
     loop-again
+    stand-at-requires-2
     returns-2)

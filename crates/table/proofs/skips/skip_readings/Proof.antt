@@ -9,6 +9,7 @@ use Rattle.table.proofs.skips.skip_readings.Tie as tie
 use Rattle.table.proofs.skips.skip_readings.Reads as reads
 use Rattle.table.proofs.skips.skip_readings.Lts as lts
 use Rattle.coding.proofs.number_at.Reads as number-at-reads
+use Rattle.table.proofs.skips.stand_at.Reads as stand-at-reads
 
 abbrev Inv-loop : tie.InvT-loop
 Inv-loop readings from-bytes code numbers from behind left₀ at₀ count₀ left at count = Passes from-bytes code numbers (Reading left₀) at₀ count₀ (Reading left) at count
@@ -25,8 +26,11 @@ number-at-requires c κs = search needs
 enum-told : tie.Need-enum-told Inv-loop μ-loop
 enum-told c = search needs
 
+stand-at-requires : tie.Need-stand-at-requires Inv-loop μ-loop
+stand-at-requires c κs = search needs
+
 returns : tie.Need-returns Inv-loop μ-loop
-returns c = c .before .before .before .before .loop .inv
+returns c = rw (c .stand-at .ensures) (c .before .before .before .before .before .loop .inv)
 
 enum-known-next : tie.Need-enum-known-next Inv-loop μ-loop
 enum-known-next c = search needs
@@ -43,8 +47,11 @@ loop-less c = search needs
 loop-again : tie.Need-loop-again Inv-loop μ-loop
 loop-again c = seen (c .before .before .before .before .before .loop .inv) (sym (c .before .next .given .1) ∙ c .before .before .before .number-at .ensures) (c .before .before .before .before .loop-test .taken)
 
+stand-at-requires-2 : tie.Need-stand-at-requires-2 Inv-loop μ-loop
+stand-at-requires-2 c κs = search needs
+
 returns-2 : tie.Need-returns-2 Inv-loop μ-loop
-returns-2 c = c .before .loop .inv
+returns-2 c = rw (c .stand-at2 .ensures) (c .before .before .loop .inv)
 
 pub skip-readings-spec : {M : Type 1} → statement M
 skip-readings-spec =
@@ -55,10 +62,12 @@ skip-readings-spec =
     loop-holds
     number-at-requires
     enum-told
+    stand-at-requires
     returns
     enum-known-next
     sub-left
     add-count
     loop-less
     loop-again
+    stand-at-requires-2
     returns-2)
