@@ -29,7 +29,9 @@ use Rattle.controller.proofs.at_start.Kinds as at-start
 use Rattle.controller.proofs.at_start.Reads as at-start-reads
 use Rattle.controller.proofs.action_of.Kinds as action-of
 use Rattle.controller.proofs.action_of.Reads as action-of-reads
+use Rattle.controller.proofs.tests.compares.Kinds as compares
 use Rattle.controller.proofs.tests.holds.Kinds as holds
+use Rattle.controller.proofs.tests.compares.Reads as compares-reads
 use Rattle.controller.proofs.tests.holds.Reads as holds-reads
 
 module _ (κs : Lfts 0) where
@@ -68,6 +70,10 @@ module _ (κs : Lfts 0) where
   pub action-of-unique : (r t : Action) (a : Dens κs action-of.ps) (e f : AtExit (endedOf 0 action-of.ps action-of.r) κs) →
       action-of-reads.Post κs a r e → action-of-reads.Post κs a t f → r ≡ t
   action-of-unique r t a e f p q = p ∙ sym q
+
+  pub compares-unique : (r t : Bool) (a : Dens κs compares.ps) (e f : AtExit (endedOf 0 compares.ps compares.r) κs) →
+      compares-reads.Post κs a r e → compares-reads.Post κs a t f → r ≡ t
+  compares-unique r t a e f p q = p ∙ sym q
 
   pub holds-unique : (r t : Bool) (a : Dens κs holds.ps) (e f : AtExit (endedOf 0 holds.ps holds.r) κs) →
       holds-reads.Post κs a r e → holds-reads.Post κs a t f → r ≡ t

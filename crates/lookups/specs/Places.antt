@@ -9,6 +9,12 @@ use Rattle.lookups.specs.declared.TestRow.{TestRow}
 use Rattle.lookups.specs.declared.ActionRow.{ActionRow}
 
 -- The counts of variables, and "for each output its source": output k, from 0.
+abbrev pub inputsOf : List ℕ → ℕ
+inputsOf T = getD T 0 0
+
+abbrev pub internalsOf : List ℕ → ℕ
+internalsOf T = getD T 1 0
+
 abbrev pub outputsOf : List ℕ → ℕ
 outputsOf T = getD T 2 0
 

@@ -3,8 +3,7 @@
 mod places;
 
 ghost use mathlib.Core.Path.{_≡_};
-ghost use lib.ListN.{getD};
-ghost use Rattle.lookups.specs.Places.{outputsOf, sourceOf, testsOf, testOf, processesOf, statesOf, actionsOf, actionOf, statePlace, actionFrom, scansOf, returnOf, readingOf};
+ghost use Rattle.lookups.specs.Places.{inputsOf, internalsOf, outputsOf, sourceOf, testsOf, testOf, processesOf, statesOf, actionsOf, actionOf, statePlace, actionFrom, scansOf, returnOf, readingOf};
 
 // A test as its three numbers.
 pub struct TestRow {
@@ -25,14 +24,14 @@ pub struct ActionRow {
 
 // How many input variables there are.
 pub fn inputs(table: &[u16]) -> u16
-    ensures { λ r. ⌜ r ≡ getD (now (table .entry)) 0 0 ⌝ }
+    ensures { λ r. ⌜ r ≡ inputsOf (now (table .entry)) ⌝ }
 {
     places::number(table, 0)
 }
 
 // How many internal variables there are.
 pub fn internals(table: &[u16]) -> u16
-    ensures { λ r. ⌜ r ≡ getD (now (table .entry)) 1 0 ⌝ }
+    ensures { λ r. ⌜ r ≡ internalsOf (now (table .entry)) ⌝ }
 {
     places::number(table, 1)
 }

@@ -2,7 +2,7 @@
 -- Assumes nothing: these are definitions.
 use Prim.Native.Nat.{ℕ, zero, suc}
 use mathlib.Core.List.{List, [], _++_}
-use lib.ListN.{getD, length, replicate}
+use lib.ListN.{length, replicate}
 use lib.Dec.{ltb}
 use Rattle.coding.specs.Code.{codeAt, values}
 use Rattle.coding.specs.Room.{over}
@@ -13,6 +13,7 @@ use Rattle.coding.specs.declared.Answer.{Answer}
 use Rattle.coding.specs.declared.Answer.the-variants.{Count, Refused as NotRead}
 use Rattle.ranges.specs.Limits.{mostProcesses}
 use Rattle.ranges.specs.Values.{pick}
+use Rattle.lookups.specs.Places.{inputsOf}
 use Rattle.table.specs.Table.{tableGrammar, inputsGrammar}
 use Rattle.scan.specs.Position.{stateBytes}
 use Rattle.run.specs.Limits.{traceRoom}
@@ -41,7 +42,7 @@ byInputs T I (Count n) = ranOf T I
 byInputs T I (NotRead cause place) = Refused cause place
 
 abbrev pub byTable : List ℕ → List ℕ → Answer → Ran
-byTable T inputs (Count n) = byInputs T (numbersIn inputs) (inputsGrammar (getD T 0 0) (codeAt inputs 0))
+byTable T inputs (Count n) = byInputs T (numbersIn inputs) (inputsGrammar (inputsOf T) (codeAt inputs 0))
 byTable T inputs (NotRead cause place) = Refused cause place
 
 unfoldable pub runOf : ℕ → List ℕ → List ℕ → Ran

@@ -16,7 +16,7 @@ ghost use Rattle.run.specs.Running.{ranOf};
 ghost use Rattle.run.specs.Trace.{numbersIn, byInputs, runOf, leftIn};
 ghost use Rattle.table.specs.Table.{inputsGrammar};
 ghost use Rattle.coding.specs.Code.{codeAt};
-ghost use lib.ListN.{getD};
+ghost use Rattle.lookups.specs.Places.{inputsOf};
 
 // The bytes of a trace of 4,096 positions, and room for the numbers of any table and of any inputs record.
 const TRACE_ROOM: usize = 20480;
@@ -72,7 +72,7 @@ fn run_numbers(table: &[u16], inputs: &[u16], trace: &mut [u8]) -> Ran
 // Reads the inputs record, then runs.
 fn run_table(table: &[u16], inputs: &[u8], trace: &mut [u8]) -> Ran
     requires { ⌜ traceRoom ≤ length (now trace) ⌝ }
-    ensures { λ r. ⌜ (r ≡ byInputs (now (table .entry)) (numbersIn (now (inputs .entry))) (inputsGrammar (getD (now (table .entry)) 0 0) (codeAt (now (inputs .entry)) 0)))
+    ensures { λ r. ⌜ (r ≡ byInputs (now (table .entry)) (numbersIn (now (inputs .entry))) (inputsGrammar (inputsOf (now (table .entry))) (codeAt (now (inputs .entry)) 0)))
         × (now (trace .exit) ≡ leftIn r (now (table .entry)) (numbersIn (now (inputs .entry))) (now (trace .entry))) ⌝ }
 {
     let mut numbers = [0u16; INPUTS_NUMBERS];
