@@ -12,7 +12,7 @@ use lib.Seq.{drop-drop}
 use lib.Dec.{ltb, eqb}
 use Rattle.coding.specs.Number.{first, second, third, pick, Begin, number, none, numberAt, placed, bytesOf}
 use Rattle.coding.proofs.Numbers.{drop-at}
-use Rattle.coding.specs.Code.{Code, item, end, broken, itemOr, turn, codeFrom, codeAt, values, bytesOfAll}
+use Rattle.coding.specs.Code.{Code, item, end, broken, itemOr, firstItem, codeFrom, codeAt, values, bytesOfAll}
 use Rattle.coding.specs.declared.Cause.{Cause}
 use Rattle.coding.specs.declared.Cause.the-variants.{CutShort}
 use Rattle.coding.specs.declared.Number.{Number}

@@ -8,7 +8,7 @@ use mathlib.Core.Bool.{Bool, true, false}
 use lib.ListN.{length, drop, getD, length-append, length-drop}
 use lib.Seq.{drop-append-seam, getD-drop}
 use Rattle.coding.specs.Number.{bytesOf, first, Begin, number, none}
-use Rattle.coding.specs.Code.{Code, item, end, broken, itemOr, turn, codeFrom, codeAt, values, bytesOfAll}
+use Rattle.coding.specs.Code.{Code, item, end, broken, itemOr, firstItem, codeFrom, codeAt, values, bytesOfAll}
 use Rattle.coding.proofs.Trip.{read-written, written-read, Begins}
 use Rattle.coding.proofs.Rows.{Taken, taken}
 use Rattle.coding.proofs.Bytes.{one≤}
@@ -19,9 +19,9 @@ Clean (item p v c) = Clean c
 Clean (end p) = Unit {0}
 Clean (broken cause p) = ⊥
 
-turn-num : (p : ℕ) (s : List ℕ) (rest : ℕ → Code) (v k : ℕ) → first s ≡ number v k → turn p s rest ≡ item p v (rest k)
-turn-num p [] rest v k e = let z : _≡_ {A = ℕ} 0 1 = cc in absurd (omega arith)
-turn-num p (b ∷ s) rest v k e = rw e
+first-item-num : (p : ℕ) (s : List ℕ) (rest : ℕ → Code) (v k : ℕ) → first s ≡ number v k → firstItem p s rest ≡ item p v (rest k)
+first-item-num p [] rest v k e = let z : _≡_ {A = ℕ} 0 1 = cc in absurd (omega arith)
+first-item-num p (b ∷ s) rest v k e = rw e
 
 abbrev Reads : Code → List ℕ → Type 0
 Reads c xs = (values c ≡ xs) × Clean c
@@ -33,7 +33,7 @@ reads (v ∷ vs) zero p small h = absurd (omega (arith, length-append (bytesOf v
 reads (v ∷ vs) (suc f) p small h =
     let room : length (bytesOfAll vs) ≤ f = omega (arith, length-append (bytesOf v) (bytesOfAll vs), one≤ v) in
     let r = reads vs f (p + length (bytesOf v)) (λ i. small (suc i)) room in
-    rw (turn-num p (bytesOf v ++ bytesOfAll vs) (λ k. codeFrom f (p + k) (drop k (bytesOf v ++ bytesOfAll vs))) v (length (bytesOf v)) (read-written v (bytesOfAll vs) (small 0)), drop-append-seam)
+    rw (first-item-num p (bytesOf v ++ bytesOfAll vs) (λ k. codeFrom f (p + k) (drop k (bytesOf v ++ bytesOfAll vs))) v (length (bytesOf v)) (read-written v (bytesOfAll vs) (small 0)), drop-append-seam)
     (ap (_∷_ v) (r .0), r .1)
 
 -- reading what was written gives the numbers back

@@ -24,14 +24,14 @@ itemOr p (number v k) rest = item p v (rest k)
 itemOr p (none cause) rest = broken cause p
 
 -- The number that the bytes begin with, and the rest, which takes up after so many bytes.
-abbrev pub turn : ℕ → List ℕ → (ℕ → Code) → Code
-turn p [] rest = end p
-turn p (b ∷ s) rest = itemOr p (first (b ∷ s)) rest
+abbrev pub firstItem : ℕ → List ℕ → (ℕ → Code) → Code
+firstItem p [] rest = end p
+firstItem p (b ∷ s) rest = itemOr p (first (b ∷ s)) rest
 
 -- The bytes s, the first of which is at place p. A number takes a byte at least, so that `fuel` bounds how many there are.
 abbrev pub codeFrom : ℕ → ℕ → List ℕ → Code
 codeFrom zero p s = end p
-codeFrom (suc fuel) p s = turn p s (λ k. codeFrom fuel (p + k) (drop k s))
+codeFrom (suc fuel) p s = firstItem p s (λ k. codeFrom fuel (p + k) (drop k s))
 
 -- The bytes of s from place p on.
 unfoldable pub codeAt : List ℕ → ℕ → Code

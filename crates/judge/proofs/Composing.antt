@@ -38,7 +38,7 @@ module _ {k : ℕ} {t : List ℕ} {start : ℕ} {w : List ℕ} (h : Room k t sta
       → Same (positions t) r (rowed (traceOf t start) .U f g)
   until-of {r} {u} {v} {f} {g} e eu ev p l = e p l ∙ until-same (positions t) start f g u v (h .inside) eu ev p l
 
--- A row kept where a phase is, the phase first; and turned, kept and turned again: the phase implies the row.
+-- A row kept where a phase is, the phase first; and negated, kept and negated again: the phase implies the row.
 module _ (t : List ℕ) (phase : Phase) (w : List ℕ) (p : ℕ) where
   pub kept : (bitAt w p && isAt t phase p) ≡ (isAt t phase p && bitAt w p)
   kept = and-comm (bitAt w p) (isAt t phase p)

@@ -55,8 +55,8 @@ fn keep(trace: &[u8], start: usize, marks: &[u8], phase: Phase, work: &mut [u8])
     rows::mask_row(&marks[from..], work, row);
 }
 
-// The row turned: not.
-fn turn(trace: &[u8], start: usize, work: &mut [u8])
+// The row negated: not.
+fn negate(trace: &[u8], start: usize, work: &mut [u8])
     requires { ⌜ Room 1 (now trace) start (now work) ⌝ }
     ensures { λ _. ⌜ Same (positions (now (trace .entry))) (bitAt (now (work .exit))) (λ p. not (bitAt (now (work .entry)) p)) ⌝ }
 {
@@ -70,9 +70,9 @@ fn imply(trace: &[u8], start: usize, marks: &[u8], phase: Phase, work: &mut [u8]
     ensures { λ _. ⌜ Same (positions (now (trace .entry))) (bitAt (now (work .exit)))
         (implies (rowed (traceOf (now (trace .entry)) start)) (isAt (now (trace .entry)) phase) (bitAt (now (work .entry)))) ⌝ }
 {
-    turn(trace, start, work);
+    negate(trace, start, work);
     keep(trace, start, marks, phase, work);
-    turn(trace, start, work);
+    negate(trace, start, work);
 }
 
 // The next position's bit: X.
@@ -108,9 +108,9 @@ fn always(trace: &[u8], start: usize, work: &mut [u8])
     requires { ⌜ Room 2 (now trace) start (now work) ⌝ }
     ensures { λ _. ⌜ Same (positions (now (trace .entry))) (bitAt (now (work .exit))) (rowed (traceOf (now (trace .entry)) start) .G (bitAt (now (work .entry)))) ⌝ }
 {
-    turn(trace, start, work);
+    negate(trace, start, work);
     ever(trace, start, work);
-    turn(trace, start, work);
+    negate(trace, start, work);
 }
 
 // The row where the phase is not this one.
@@ -119,7 +119,7 @@ fn fill_lacking(trace: &[u8], start: usize, marks: &[u8], phase: Phase, work: &m
     ensures { λ _. ⌜ Same (positions (now (trace .entry))) (bitAt (now (work .exit))) (λ p. not (isAt (now (trace .entry)) phase p)) ⌝ }
 {
     fill_phase(trace, marks, phase, work);
-    turn(trace, start, work);
+    negate(trace, start, work);
 }
 
 // The same in the first row alone; the second row stays.
@@ -263,7 +263,7 @@ pub fn apply_one(operator: One, trace: &[u8], start: usize, marks: &[u8], work: 
 {
     match operator {
         One::Not => {
-            turn(trace, start, work);
+            negate(trace, start, work);
         }
         One::Next(family) => {
             next_in(family, trace, start, marks, work);

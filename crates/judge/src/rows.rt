@@ -224,7 +224,7 @@ fn with_bit(x: u8, k: usize, v: bool) -> u8
     }
 }
 
-// Each of the first n bytes with its bits turned.
+// Each of the first n bytes with its bits flipped.
 pub fn flip_row(work: &mut [u8], n: usize)
     requires { ⌜ n ≤ length (now work) ⌝ }
     ensures { λ _. ⌜ ((p : ℕ) → p < 8 * n → bitAt (now (work .exit)) p ≡ not (bitAt (now (work .entry)) p)) ⌝ }

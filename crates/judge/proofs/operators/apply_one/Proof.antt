@@ -8,13 +8,13 @@ use Rattle.judge.proofs.operators.apply_one.Lts as lts
 use Rattle.judge.proofs.operators.always_in.Reads as always-in-reads
 use Rattle.judge.proofs.operators.ever_in.Reads as ever-in-reads
 use Rattle.judge.proofs.operators.next_in.Reads as next-in-reads
-use Rattle.judge.proofs.operators.turn.Reads as turn-reads
+use Rattle.judge.proofs.operators.negate.Reads as negate-reads
 
 enum-told : tie.Need-enum-told
 enum-told c = search needs
 
-turn-requires : tie.Need-turn-requires
-turn-requires c κs = one-row (c .before .before .before .before .before .before .pre .0) refl
+negate-requires : tie.Need-negate-requires
+negate-requires c κs = one-row (c .before .before .before .before .before .before .pre .0) refl
 
 enum-known-operator : tie.Need-enum-known-operator
 enum-known-operator c = search needs
@@ -35,10 +35,10 @@ always-in-requires : tie.Need-always-in-requires
 always-in-requires c κs = c .before .before .before .before .before .before .before .pre
 
 same-length : tie.Need-same-length
-same-length c = c .before .before .turn .kept .1 .1 .0
+same-length c = c .before .before .negate .kept .1 .1 .0
 
 returns : tie.Need-returns
-returns c = rw (c .before .before .before .before .enum-told .given .1) (c .before .before .turn .ensures)
+returns c = rw (c .before .before .before .before .enum-told .given .1) (c .before .before .negate .ensures)
 
 same-length-2 : tie.Need-same-length-2
 same-length-2 c = c .before .before .next-in .kept .1 .1 .1 .1 .0
@@ -63,7 +63,7 @@ apply-one-spec =
     tie.close
     (tie.spec
     enum-told
-    turn-requires
+    negate-requires
     enum-known-operator
     next-in-requires
     enum-known-operator-2

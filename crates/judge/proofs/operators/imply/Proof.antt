@@ -7,23 +7,23 @@ use Rattle.judge.proofs.operators.imply.Tie as tie
 use Rattle.judge.proofs.operators.imply.Reads as reads
 use Rattle.judge.proofs.operators.imply.Lts as lts
 use Rattle.judge.proofs.operators.keep.Reads as keep-reads
-use Rattle.judge.proofs.operators.turn.Reads as turn-reads
+use Rattle.judge.proofs.operators.negate.Reads as negate-reads
 
-turn-requires : tie.Need-turn-requires
-turn-requires c κs = c .before .before .before .before .pre .0
+negate-requires : tie.Need-negate-requires
+negate-requires c κs = c .before .before .before .before .pre .0
 
 keep-requires : tie.Need-keep-requires
-keep-requires c κs = (as-long (c .before .before .before .before .before .before .before .before .pre .0) (c .before .before .before .turn .kept .1 .1 .0), c .before .before .before .before .before .before .before .before .pre .1)
+keep-requires c κs = (as-long (c .before .before .before .before .before .before .before .before .pre .0) (c .before .before .before .negate .kept .1 .1 .0), c .before .before .before .before .before .before .before .before .pre .1)
 
-turn-requires-2 : tie.Need-turn-requires-2
-turn-requires-2 c κs = as-long (c .before .before .before .before .before .before .before .before .before .before .before .before .pre .0) (c .before .before .before .keep .kept .1 .1 .1 .1 .0 ∙ c .before .before .before .before .before .before .before .turn .kept .1 .1 .0)
+negate-requires-2 : tie.Need-negate-requires-2
+negate-requires-2 c κs = as-long (c .before .before .before .before .before .before .before .before .before .before .before .before .pre .0) (c .before .before .before .keep .kept .1 .1 .1 .1 .0 ∙ c .before .before .before .before .before .before .before .negate .kept .1 .1 .0)
 
 same-length : tie.Need-same-length
-same-length c = c .before .before .turn2 .kept .1 .1 .0 ∙ c .before .before .before .before .before .before .keep .kept .1 .1 .1 .1 .0 ∙ c .before .before .before .before .before .before .before .before .before .before .turn .kept .1 .1 .0
+same-length c = c .before .before .negate2 .kept .1 .1 .0 ∙ c .before .before .before .before .before .before .keep .kept .1 .1 .1 .1 .0 ∙ c .before .before .before .before .before .before .before .before .before .before .negate .kept .1 .1 .0
 
 returns : tie.Need-returns
 returns c = let a = c .before .before .before .before .before .before .before .before .before .before .before .before .before .before .before .args in
-    λ p h. c .before .before .turn2 .ensures p h ∙ ap not (c .before .before .before .before .before .before .keep .ensures p h ∙ ap (λ (b : Bool). b && isAt a.trace.now a.phase p) (c .before .before .before .before .before .before .before .before .before .before .turn .ensures p h)) ∙ implied a.trace.now a.phase a.work.now p
+    λ p h. c .before .before .negate2 .ensures p h ∙ ap not (c .before .before .before .before .before .before .keep .ensures p h ∙ ap (λ (b : Bool). b && isAt a.trace.now a.phase p) (c .before .before .before .before .before .before .before .before .before .before .negate .ensures p h)) ∙ implied a.trace.now a.phase a.work.now p
 
 pub imply-spec : {M : Type 1} → statement M
-imply-spec = tie.close (tie.spec turn-requires keep-requires turn-requires-2 same-length returns)
+imply-spec = tie.close (tie.spec negate-requires keep-requires negate-requires-2 same-length returns)

@@ -1,9 +1,9 @@
 use native.Mathlib.Omega.{arith}
 use borrow.Author.Needs.{needs}
-use Rattle.judge.proofs.operators.turn.Statement.{statement}
-use Rattle.judge.proofs.operators.turn.Tie as tie
-use Rattle.judge.proofs.operators.turn.Reads as reads
-use Rattle.judge.proofs.operators.turn.Lts as lts
+use Rattle.judge.proofs.operators.negate.Statement.{statement}
+use Rattle.judge.proofs.operators.negate.Tie as tie
+use Rattle.judge.proofs.operators.negate.Reads as reads
+use Rattle.judge.proofs.operators.negate.Lts as lts
 use Rattle.judge.proofs.rows.flip_row.Reads as flip-row-reads
 
 add-row : tie.Need-add-row
@@ -18,5 +18,5 @@ same-length c = search needs
 returns : tie.Need-returns
 returns c = λ p h. c .before .before .flip-row .ensures p (omega arith)
 
-pub turn-spec : {M : Type 1} → statement M
-turn-spec = tie.close (tie.spec add-row flip-row-requires same-length returns)
+pub negate-spec : {M : Type 1} → statement M
+negate-spec = tie.close (tie.spec add-row flip-row-requires same-length returns)
