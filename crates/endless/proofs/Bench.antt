@@ -17,7 +17,7 @@ use Rattle.lookups.specs.Places.{sourceOf, testOf, afterStates, afterProcesses,
 use Rattle.controller.specs.State.{up, goes, timed, entering, valueAt, statesOf, stateAt, recordAt, withRecord, start, raised, allRaised}
 use Rattle.controller.specs.Rules.{updated, elapsed, waited, restarted, actOf}
 use Rattle.controller.specs.Actions.{actionOf}
-use Rattle.controller.specs.Tests.{truth}
+use Rattle.controller.specs.Tests.{compares, truth}
 use Rattle.controller.specs.Same.{sameValues, sameRecord, sameRecords, sameState}
 use Rattle.scan.specs.Guards.{testHolds, guardHolds, nextOf, atomOf}
 use Rattle.scan.specs.Scanning.{taken, readOf, written, writeOf}
@@ -29,7 +29,7 @@ use Rattle.run.specs.declared.Ran.the-variants.{Closed}
 use Rattle.endless.specs.Bench.{benchTable, benchInputs, timerTable, timerInputs, timerBytes}
 
 pub bench-run : (runOf 20480 benchTable benchInputs ≡ Closed 12 4) × (traceBytes (numbersIn benchTable) (numbersIn benchInputs) 12 ≡ benchBytes)
-unfolding sourceOf testOf afterStates afterProcesses processPlace statePlace rowFrom actionFrom rowOf readingOf up goes timed entering valueAt statesOf stateAt recordAt withRecord start raised allRaised updated elapsed waited restarted actOf actionOf truth sameValues sameRecord sameRecords sameState testHolds guardHolds nextOf atomOf taken readOf written writeOf packed atomByte atomBytes stateBytes active stepOf tooLong actionMove moveOf reached toReturn toEnd closing ranOf path runOf within totalOk isInternal isVariable testAOk opOk xOk yOk usesNexts guardOk usesElse nextOk allowed atSources afterSource atTests afterTest afterAction numberAt codeAt check countsFrom stateOk testsFrom tableGrammar inputsGrammar
+unfolding sourceOf testOf afterStates afterProcesses processPlace statePlace rowFrom actionFrom rowOf readingOf up goes timed entering valueAt statesOf stateAt recordAt withRecord start raised allRaised updated elapsed waited restarted actOf actionOf compares truth sameValues sameRecord sameRecords sameState testHolds guardHolds nextOf atomOf taken readOf written writeOf packed atomByte atomBytes stateBytes active stepOf tooLong actionMove moveOf reached toReturn toEnd closing ranOf path runOf within totalOk isInternal isVariable testAOk opOk xOk yOk usesNexts guardOk usesElse nextOk allowed atSources afterSource atTests afterTest afterAction numberAt codeAt check countsFrom stateOk testsFrom tableGrammar inputsGrammar
 bench-run = (refl, refl)
 
 pub bench-lasso : traceOf (traceBytes (numbersIn benchTable) (numbersIn benchInputs) 12) 4 ≡ bench
@@ -41,5 +41,5 @@ shown-of-run = subst (λ (t : Trace). All (StatedOn t) marked) (sym bench-lasso)
 
 -- The slip of document 01 that is of the run.
 pub timer-run : (runOf 20480 timerTable timerInputs ≡ Closed 16 8) × (traceBytes (numbersIn timerTable) (numbersIn timerInputs) 16 ≡ timerBytes)
-unfolding sourceOf testOf afterStates afterProcesses processPlace statePlace rowFrom actionFrom rowOf readingOf up goes timed entering valueAt statesOf stateAt recordAt withRecord start raised allRaised updated elapsed waited restarted actOf actionOf truth sameValues sameRecord sameRecords sameState testHolds guardHolds nextOf atomOf taken readOf written writeOf packed atomByte atomBytes stateBytes active stepOf tooLong actionMove moveOf reached toReturn toEnd closing ranOf path runOf within totalOk isInternal isVariable testAOk opOk xOk yOk usesNexts guardOk usesElse nextOk allowed atSources afterSource atTests afterTest afterAction numberAt codeAt check countsFrom stateOk testsFrom tableGrammar inputsGrammar
+unfolding sourceOf testOf afterStates afterProcesses processPlace statePlace rowFrom actionFrom rowOf readingOf up goes timed entering valueAt statesOf stateAt recordAt withRecord start raised allRaised updated elapsed waited restarted actOf actionOf compares truth sameValues sameRecord sameRecords sameState testHolds guardHolds nextOf atomOf taken readOf written writeOf packed atomByte atomBytes stateBytes active stepOf tooLong actionMove moveOf reached toReturn toEnd closing ranOf path runOf within totalOk isInternal isVariable testAOk opOk xOk yOk usesNexts guardOk usesElse nextOk allowed atSources afterSource atTests afterTest afterAction numberAt codeAt check countsFrom stateOk testsFrom tableGrammar inputsGrammar
 timer-run = (refl, refl)
