@@ -15,7 +15,7 @@ use Rattle.ranges.specs.Values.{within}
 use Rattle.ranges.specs.Order.{allowed}
 use Rattle.ranges.specs.declared.Want.the-variants.{Scans, Return}
 use Rattle.table.specs.Table.{check, tableGrammar, inputsGrammar}
-use Rattle.lookups.specs.Places.{processesOf, scansOf, returnOf}
+use Rattle.lookups.specs.Places.{testsOf, processesOf, scansOf, returnOf}
 use Rattle.lookups.proofs.Structured.{joined}
 use Rattle.structure.proofs.Whole.{accepted-is-allowed}
 
@@ -25,6 +25,13 @@ some-process c n e =
     let (t, same, ok, _, _) = accepted-is-allowed mostProcesses (omega arith) c n e in
     let count : processesOf (values c) ≡ length (t .processes) = ap processesOf same ∙ joined t .processes in
     omega (arith, ok .process-count .0)
+
+-- "count of tests (0 to 32)"
+pub few-tests : (c : Code) (n : ℕ) → tableGrammar mostProcesses c ≡ Count n → testsOf (values c) ≤ 32
+few-tests c n e =
+    let (t, same, ok, _, _) = accepted-is-allowed mostProcesses (omega arith) c n e in
+    let count : testsOf (values c) ≡ length (t .tests) = ap testsOf same ∙ joined t .tests in
+    omega (arith, ok .test-count)
 
 -- "return scan b (below q)"
 refused : {cause : Cause} {p n : ℕ} → Refused cause p ≡ Count n → ⊥

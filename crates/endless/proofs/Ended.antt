@@ -13,7 +13,7 @@ use Rattle.coding.specs.declared.Cause.{Cause}
 use Rattle.coding.specs.declared.Answer.{Answer}
 use Rattle.coding.specs.declared.Answer.the-variants.{Count, Refused as NotRead}
 use Rattle.ranges.specs.Limits.{mostProcesses}
-use Rattle.lookups.specs.Places.{processesOf, scansOf, returnOf}
+use Rattle.lookups.specs.Places.{testsOf, processesOf, scansOf, returnOf}
 use Rattle.table.specs.Table.{tableGrammar, inputsGrammar}
 use Rattle.controller.specs.Same.{sameState}
 use Rattle.run.specs.Limits.{lastState, traceRoom}
@@ -23,12 +23,13 @@ use Rattle.run.specs.declared.Going.the-variants.{On}
 use Rattle.run.specs.declared.Reached.{Reached}
 use Rattle.run.specs.declared.Ran.the-variants.{Closed, Halted, Refused}
 use Rattle.controller.proofs.Equal.{same-is-equal}
-use Rattle.endless.proofs.Accepted.{some-process, returns-below}
+use Rattle.endless.proofs.Accepted.{some-process, few-tests, returns-below}
 use Rattle.endless.proofs.States.{stateAt, Arrived, Came, came, on-or-stopped}
 
--- There is a process; the run came to the end of scan b and from there to that of scan q, within the limit, and the two states are equal.
+-- There is a process and no test above the 32nd; the run came to the end of scan b and from there to that of scan q, within the limit, and the two states are equal.
 pub record Ended (T I : List ℕ) (n start : ℕ) : Type 0 where
   pub processes : 1 ≤ processesOf T
+  pub tests : testsOf T ≤ 32
   pub returns : returnOf I < scansOf I
   pub back : Arrived T I (returnOf I) 0 start
   pub last : Arrived T I (scansOf I) start n
@@ -87,10 +88,11 @@ module _ (T I : List ℕ) where
   unfolding toEnd
   came-end c g = came-last (toReturn T I) (scansOf I) (c .machine) (c .bound) g
 
-  ended-with : (n start : ℕ) (back last : Reached) → 1 ≤ processesOf T → returnOf I < scansOf I →
+  ended-with : (n start : ℕ) (back last : Reached) → 1 ≤ processesOf T → testsOf T ≤ 32 → returnOf I < scansOf I →
       Came T I (returnOf I) 0 lastState back → Came T I (scansOf I) (back .number) lastState last → Met n start back last → Ended T I n start
-  ended-with n start back last p r b l m = record {
+  ended-with n start back last p t r b l m = record {
     processes = p;
+    tests = t;
     returns = r;
     back = rw (m .start-is) at (b .arrived);
     last = rw (m .n-is, m .start-is) at (l .arrived);
@@ -98,21 +100,21 @@ module _ (T I : List ℕ) where
     same = rw (l .machine, b .machine, m .n-is, m .start-is) at (m .same);
   }
 
-  ended-so : (n start : ℕ) → 1 ≤ processesOf T → returnOf I < scansOf I → ranOf T I ≡ Closed n start → Ended T I n start
-  ended-so n start p r e =
+  ended-so : (n start : ℕ) → 1 ≤ processesOf T → testsOf T ≤ 32 → returnOf I < scansOf I → ranOf T I ≡ Closed n start → Ended T I n start
+  ended-so n start p t r e =
       let c = came-back (back-on T I n start e) in
-      ended-with n start (toReturn T I) (toEnd T I) p r c (came-end c (last-on T I n start e)) (met (scansOf I) n start _ _ (closes T I n start e))
+      ended-with n start (toReturn T I) (toEnd T I) p t r c (came-end c (last-on T I n start e)) (met (scansOf I) n start _ _ (closes T I n start e))
 
 -- ---- the grammars
 module _ (n start : ℕ) where
-  by-inputs : (T : List ℕ) (inputs : List ℕ) → 1 ≤ processesOf T → (a : Answer) → inputsGrammar (getD T 0 0) (codeAt inputs 0) ≡ a →
+  by-inputs : (T : List ℕ) (inputs : List ℕ) → 1 ≤ processesOf T → testsOf T ≤ 32 → (a : Answer) → inputsGrammar (getD T 0 0) (codeAt inputs 0) ≡ a →
       byInputs T (numbersIn inputs) a ≡ Closed n start → Ended T (numbersIn inputs) n start
-  by-inputs T inputs p (Count k) f e = ended-so T (numbersIn inputs) n start p (returns-below (getD T 0 0) k (codeAt inputs 0) f) e
-  by-inputs T inputs p (NotRead cause place) f e = absurd (not-refused e)
+  by-inputs T inputs p t (Count k) f e = ended-so T (numbersIn inputs) n start p t (returns-below (getD T 0 0) k (codeAt inputs 0) f) e
+  by-inputs T inputs p t (NotRead cause place) f e = absurd (not-refused e)
 
   by-table : (table inputs : List ℕ) (a : Answer) → tableGrammar mostProcesses (codeAt table 0) ≡ a →
       byTable (numbersIn table) inputs a ≡ Closed n start → Ended (numbersIn table) (numbersIn inputs) n start
-  by-table table inputs (Count k) f e = by-inputs (numbersIn table) inputs (some-process (codeAt table 0) k f) _ refl e
+  by-table table inputs (Count k) f e = by-inputs (numbersIn table) inputs (some-process (codeAt table 0) k f) (few-tests (codeAt table 0) k f) _ refl e
   by-table table inputs (NotRead cause place) f e = absurd (not-refused e)
 
 pub ended : (room n start : ℕ) (table inputs : List ℕ) → runOf room table inputs ≡ Closed n start → Ended (numbersIn table) (numbersIn inputs) n start

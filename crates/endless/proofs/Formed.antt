@@ -56,7 +56,7 @@ module _ {T I : List ℕ} {n start : ℕ} (h : Ended T I n start) where
           let end : stateAt T I (suc i) .phase ≡ Output = rw e (last-ends h .0) in
           rw (after-last lassoOf i (omega (arith, positions-is T I n)), phase-at i l, phase-at start (start-below h), start-ends h .0, ← end) (follows-at h i l)
 
-  formed : WellFormed lassoOf
+  pub formed : WellFormed lassoOf
   formed = record {
     inside = lasso-inside;
     steps = λ i l. steps i (rw (positions-is T I n) at l);

@@ -12,3 +12,4 @@ pub mod Agreement
 pub mod Moments
 pub mod Closed
 pub mod Sized
+pub mod ByTheRules

@@ -1,2 +1,3 @@
 pub mod Unrolled
+pub mod ByTheRules
 pub mod Bench

@@ -5,7 +5,10 @@ use mathlib.Core.List.{List}
 use lib.Dec.{ltb}
 use Rattle.ranges.specs.Limits.{mostProcesses}
 use Rattle.ranges.specs.Values.{pick}
+use Rattle.meaning.specs.Meaning.{Run}
 use Rattle.lookups.specs.Places.{scansOf, returnOf}
+use Rattle.controller.specs.State.{statesOf}
+use Rattle.scan.specs.Guards.{atomOf}
 use Rattle.run.specs.Moves.{begun, moveOf}
 use Rattle.run.specs.declared.Machine.{Machine}
 
@@ -19,3 +22,11 @@ endlessState T I zero = begun mostProcesses
 endlessState T I (suc n) =
     let m = endlessState T I n in
     moveOf T I (recordedScan (scansOf I) (returnOf I) (m .scan)) m .machine
+
+-- The same as a run on which requirements have a meaning: the phase of each of its states, and of atom k whether test k is true of it; an atom without a test is false.
+abbrev pub rulesRun : List ℕ → List ℕ → Run
+rulesRun T I =
+    record {
+      phase = λ n. endlessState T I n .phase;
+      says = λ n k. atomOf T (endlessState T I n .state .variables) (statesOf (endlessState T I n .state .processes)) k;
+    }

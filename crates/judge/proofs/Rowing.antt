@@ -22,7 +22,7 @@ use Rattle.requirement.specs.declared.Node.{Node}
 use Rattle.requirement.specs.declared.NodeRead.{NodeRead}
 use Rattle.requirement.specs.declared.Node.the-variants.{Atom, Mark, OverOne, OverTwo}
 use Rattle.requirement.specs.declared.NodeRead.the-variants.{Found, Fault}
-use Rattle.requirement.proofs.Walking.{walk-none, walk-down}
+use Rattle.requirement.proofs.Walking.{walk-none, walk-down, atom-to-31}
 use Rattle.meaning.specs.Phases.{Phase-discrete}
 use Rattle.meaning.specs.Trace.{Trace, after}
 use Rattle.meaning.specs.Rows.{judge, rowed, untilRow}
@@ -34,6 +34,7 @@ use Rattle.bits.proofs.Bytes.{part-before, part-is}
 use Rattle.bits.proofs.Walks.{until-same}
 use Rattle.lasso.specs.Bytes.{phaseNumber, positions, phaseFrom, phaseByte, markB, atomB, traceOf}
 use Rattle.lasso.proofs.Positions.{after-inside}
+use Rattle.lasso.proofs.Looking.{atom-within}
 use Rattle.judge.specs.Working.{Same, isAt, Room, oneOf, twoOf, Rowed}
 
 -- ---- rows that agree at the stored positions give, by every operator, rows that agree there
@@ -148,7 +149,9 @@ module _ (kind : Kind) (s : List ℕ) (at : ℕ) where
 
       pub rowed-atom : (k : ℕ) → nodeAt kind s at ≡ Found (Atom k) r → Same (positions trace) (bitAt work) (atomB trace k) → Rowed (walkAt kind depth s at) trace start work r
       unfolding judge
-      rowed-atom k e h = rw (walk-down kind s at depth more _ e) (refl, h)
+      rowed-atom k e h =
+          let few : k < 32 = omega (arith, atom-to-31 kind s at k r e) in
+          rw (walk-down kind s at depth more _ e) (refl, λ p l. h p l ∙ sym (atom-within trace p k few))
 
       pub rowed-mark : (p : Phase) → nodeAt kind s at ≡ Found (Mark p) r → Same (positions trace) (bitAt work) (isAt trace p) → Rowed (walkAt kind depth s at) trace start work r
       unfolding judge

@@ -31,3 +31,8 @@ module _ (s : List ℕ) (p : ℕ) where
     pub no-atom : a < 32 → length s ≤ p * 5 + 1 + a / 8 → false ≡ atomAt s a p
     unfolding atomAt atomB
     no-atom k h = rw (lt-ltb a 32 k, List·getD-eq-default s 0 h) (none-set (a % 8))
+
+    -- one of the 32 atoms is looked up without the bound
+    pub atom-within : a < 32 → atomAt s a p ≡ atomB s a p
+    unfolding atomAt
+    atom-within h = rw (lt-ltb a 32 h) refl

@@ -37,13 +37,13 @@ markB s m p = eqb (phaseByte s p) m
 unfoldable pub atomB : List ℕ → ℕ → ℕ → Bool
 atomB s a p = bitB (getD s (p * 5 + 1 + a / 8) 0) (a % 8)
 
--- What a caller is told: no atom above 31 holds anywhere.
+-- The same of any number: there are 32 atoms, and no other holds anywhere. (Without the bound atom 40 would be read from the position behind.)
 unfoldable pub atomAt : List ℕ → ℕ → ℕ → Bool
 atomAt s a p = pick (ltb a 32) (atomB s a p) false
 
 -- The lasso that a trace's bytes and a loop start are.
 abbrev pub traceOf : List ℕ → ℕ → Trace
-traceOf s start = record { len = positions s; loop = start; phaseAt = λ p. phaseFrom (phaseByte s p); atomAt = λ p a. atomB s a p }
+traceOf s start = record { len = positions s; loop = start; phaseAt = λ p. phaseFrom (phaseByte s p); atomAt = λ p a. atomAt s a p }
 
 -- How many of its positions are Input.
 abbrev pub inputsIn : List ℕ → ℕ

@@ -22,7 +22,7 @@ use Rattle.meaning.specs.Findings.{Findings, select}
 use Rattle.marked.specs.Marked.{answered, bench, benchBytes, marked, slips, Case, holds, fails, finds, gives, bytes, Stated, All}
 use Rattle.coding.specs.declared.Answer.the-variants.{Count}
 use Rattle.bits.specs.Bits.{bitB}
-use Rattle.lasso.specs.Bytes.{atomB}
+use Rattle.lasso.specs.Bytes.{atomAt, atomB}
 use Rattle.lasso.specs.Checking.{checkTrace, checkBy, lengthOk, mayFollow, stepsFrom, outputFrom}
 use Rattle.lasso.proofs.WellFormed.{accepted-is-well-formed}
 use Rattle.meaning.proofs.Walk.{and-both}
@@ -79,14 +79,14 @@ all-passed [] h = tt
 all-passed (c ∷ cs) h = let (x, y) = and-both (test c) _ h in (passed c x, all-passed cs y)
 
 pub shown : All Stated marked
-unfolding tests test select judge walk decide position same translate codeOf bytesOf atomB bitB
+unfolding tests test select judge walk decide position same translate codeOf bytesOf atomAt atomB bitB
 shown = all-passed marked refl
 
 pub slips-shown : All Stated slips
-unfolding tests test select judge walk decide position same translate atomB bitB
+unfolding tests test select judge walk decide position same translate atomAt atomB bitB
 slips-shown = all-passed slips refl
 
 -- The verdict that the bench case prints.
 pub verdict-shown : Stated (holds answered 0)
-unfolding test judge walk decide position atomB bitB
+unfolding test judge walk decide position atomAt atomB bitB
 verdict-shown = passed (holds answered 0) refl
