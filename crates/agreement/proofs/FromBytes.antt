@@ -4,7 +4,7 @@
 use Prim.Native.Nat.{ℕ, _*_, _≤_}
 use mathlib.Core.Path.{_≡_, refl, sym, ap, _∙_}
 use mathlib.Core.Logic.{_↔_, Iff·trans}
-use mathlib.Core.Bool.{Bool, true}
+use mathlib.Core.Bool.{Bool}
 use mathlib.Core.List.{List}
 use lib.ListN.{length, take}
 use contract.Lifetimes.{Lfts}
@@ -20,7 +20,6 @@ use Rattle.requirement.specs.declared.Kind.the-variants.{Untranslated, Translat
 use Rattle.meaning.specs.Meaning.{Holds}
 use Rattle.meaning.specs.Translation.{translate}
 use Rattle.lasso.specs.Bytes.{traceOf}
-use Rattle.lasso.specs.Checking.{checkTrace}
 use Rattle.lasso.proofs.WellFormed.{accepted-is-well-formed}
 use Rattle.translate.specs.Writing.{translated}
 use Rattle.translate.proofs.Agreement.{translation-is-read, same-verdicts}
@@ -29,7 +28,7 @@ use Rattle.judge.specs.declared.Judged.{Judged}
 use Rattle.judge.specs.declared.Judged.the-variants.{Verdict, Refused}
 use Rattle.judge.proofs.judge.Kinds as judge
 use Rattle.judge.proofs.judge.Reads as judge-reads
-use Rattle.run.specs.Trace.{traceBytes, numbersIn, runOf, leftIn}
+use Rattle.run.specs.Trace.{traceBytes, numbersIn, runOf}
 use Rattle.run.specs.declared.Ran.{Ran}
 use Rattle.run.specs.declared.Ran.the-variants.{Closed}
 use Rattle.run.proofs.run.Kinds as run

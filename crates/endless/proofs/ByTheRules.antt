@@ -5,7 +5,7 @@ use native.Mathlib.Omega.{arith}
 use mathlib.Core.Path.{_≡_, sym, ap, _∙_}
 use mathlib.Core.Logic.{_↔_}
 use mathlib.Core.Bool.{Bool, true}
-use mathlib.Core.List.{List, List·Memᴰ}
+use mathlib.Core.List.{List}
 use Rattle.requirement.specs.declared.Phase.the-variants.{Input}
 use Rattle.requirement.specs.Requirement.{Requirement}
 use Rattle.meaning.specs.Meaning.{Run, Holds}

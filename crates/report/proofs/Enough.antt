@@ -32,6 +32,7 @@ use Rattle.judge.specs.Judging.{Checks, stop, go, checksOf, byRequirement, byTr
 use Rattle.run.specs.Limits.{traceRoom}
 use Rattle.run.specs.Trace.{traceBytes, numbersIn, runOf}
 use Rattle.run.specs.declared.Ran.the-variants.{Closed}
+use Rattle.endless.proofs.Closed.{run-is-lasso}
 use Rattle.endless.proofs.Sized.{trace-length, closed-small}
 use Rattle.report.specs.Reporting.{workRoom, listRoom}
 
@@ -196,3 +197,14 @@ pub closed-never-short : (table inputs code : List ℕ) (n start place : ℕ) �
 closed-never-short table inputs code n start place e =
     never-short code (traceBytes (numbersIn table) (numbersIn inputs) n) start place
     (omega (arith, trace-length (numbersIn table) (numbersIn inputs) n, closed-small traceRoom n start table inputs e))
+
+-- So a requirement that is accepted is judged on it.
+pub closed-judged : (table inputs code : List ℕ) (n start : ℕ) (f : Requirement) → runOf traceRoom table inputs ≡ Closed n start →
+    parsed Untranslated (codeAt code 0) ≡ whole f →
+    checksOf Untranslated code (traceBytes (numbersIn table) (numbersIn inputs) n) start workRoom listRoom ≡ go f
+unfolding checksOf
+closed-judged table inputs code n start f e read =
+    let few : length (traceBytes (numbersIn table) (numbersIn inputs) n) ≤ 20480 =
+    omega (arith, trace-length (numbersIn table) (numbersIn inputs) n, closed-small traceRoom n start table inputs e) in
+    rw (read, run-is-lasso traceRoom n start table inputs e)
+    (enough-room (traceBytes (numbersIn table) (numbersIn inputs) n) few f (read-is-code Untranslated (codeAt code 0) f read .2 .depth))

@@ -6,3 +6,4 @@ pub mod Answering
 pub mod Enough
 pub mod Unique
 pub mod Bench
+pub mod Right

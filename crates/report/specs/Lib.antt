@@ -4,3 +4,4 @@ pub mod Reporting
 pub mod Bench
 pub mod Printing
 pub mod Placing
+pub mod Right
