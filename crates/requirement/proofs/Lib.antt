@@ -10,3 +10,4 @@ pub mod Undoing
 pub mod Examples
 pub mod Unique
 pub mod Walking
+pub mod Standing

@@ -14,6 +14,8 @@ use Rattle.requirement.specs.declared.One.{One}
 use Rattle.requirement.specs.declared.One.the-variants.{Not, Next, Ever, Always}
 use Rattle.requirement.specs.declared.Two.{Two}
 use Rattle.requirement.specs.declared.Two.the-variants.{And, Until}
+use Rattle.requirement.specs.declared.Node.{Node}
+use Rattle.requirement.specs.declared.Node.the-variants.{Atom as AtomNode, Mark as MarkNode, OverOne as OneNode, OverTwo as TwoNode}
 use Rattle.requirement.specs.declared.Tag.{Tag}
 use Rattle.requirement.specs.declared.Tag.the-variants.{Atom, Mark, OverOne, OverTwo, Unknown}
 
@@ -51,6 +53,13 @@ oneNo (Always c) = familyNo c + 2
 abbrev pub twoNo : Two → ℕ
 twoNo And = 2
 twoNo (Until c) = familyNo c + 3
+
+-- The numbers that a node takes in a code: its tag, and of an atom its number behind it.
+abbrev pub nodeNumbers : Node → List ℕ
+nodeNumbers (AtomNode k) = 0 ∷ k ∷ []
+nodeNumbers (MarkNode p) = markNo p ∷ []
+nodeNumbers (OneNode o) = oneNo o ∷ []
+nodeNumbers (TwoNode o) = twoNo o ∷ []
 
 unfoldable pub codeOf : Requirement → List ℕ
 codeOf (atom k) = 0 ∷ k ∷ []
