@@ -18,7 +18,7 @@ use Rattle.coding.proofs.Source.{Turn, turn}
 use Rattle.requirement.specs.Requirement.{Requirement, one, two, nodesOf, depthOf}
 use Rattle.requirement.specs.Limits.{nodeLimit, depthLimit, tagIn}
 use Rattle.requirement.specs.Reading.{Got, got, refused, andThen, atomOf, pastOf, byTag, treeOf, wholeOf, parsed, checkedOf, checked}
-use Rattle.requirement.specs.Summing.{Sum, sum, stopped, summed, partSum, least, leastPart, wholeSum}
+use Rattle.requirement.specs.Working.Summing.{Sum, sum, stopped, summed, partSum, least, leastPart, wholeSum}
 use Rattle.requirement.specs.declared.Kind.{Kind}
 use Rattle.requirement.specs.declared.One.{One}
 use Rattle.requirement.specs.declared.Two.{Two}

@@ -2,5 +2,5 @@ pub mod Requirement
 pub mod Tags
 pub mod Limits
 pub mod Reading
-pub mod Summing
 pub mod Walking
+pub mod Working

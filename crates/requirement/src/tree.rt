@@ -8,7 +8,7 @@ ghost use mathlib.Core.Path.{_≡_};
 ghost use Prim.Native.Nat.{_+_, _-_};
 ghost use Rattle.coding.specs.Code.{sourceAt};
 ghost use Rattle.requirement.specs.Reading.{pastOf, atomOf, treeOf};
-ghost use Rattle.requirement.specs.Summing.{partSum, summed, least, leastPart, wholeSum};
+ghost use Rattle.requirement.specs.Working.Summing.{partSum, summed, least, leastPart, wholeSum};
 
 // What reading a node and its operands finds: the place after them, how many nodes may still come, and how much of the depth was not used; or a refusal.
 pub enum Part {

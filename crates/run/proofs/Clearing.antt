@@ -10,7 +10,7 @@ use lib.Seq.{take-all, take-suc-set, append-snoc}
 use Rattle.coding.specs.Room.{over}
 use Rattle.coding.proofs.Bytes.{over-eq, over-length}
 use Rattle.coding.proofs.Grammars.{front}
-use Rattle.run.specs.Walking.{cleared}
+use Rattle.run.specs.Working.Walking.{cleared}
 
 abbrev pub zeros : ℕ → List ℕ
 zeros n = replicate n 0

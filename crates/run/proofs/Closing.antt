@@ -18,7 +18,7 @@ use Rattle.run.specs.Limits.{lastState, traceRoom}
 use Rattle.run.specs.Moves.{begun}
 use Rattle.run.specs.Running.{toReturn, toEnd, halted, closing, ranOf}
 use Rattle.run.specs.Trace.{path, traceBytes, leftIn}
-use Rattle.run.specs.Walking.{Walked, Small, clearedBy}
+use Rattle.run.specs.Working.Walking.{Walked, Small, clearedBy}
 use Rattle.run.specs.declared.Going.the-variants.{On, Stopped}
 use Rattle.run.specs.declared.Machine.{Machine}
 use Rattle.run.specs.declared.Reached.{Reached}

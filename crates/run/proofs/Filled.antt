@@ -9,7 +9,7 @@ use mathlib.Core.List.{List}
 use lib.ListN.{length, getD, set, length-set}
 use lib.Seq.{getD-set-same, getD-set-other}
 use Rattle.lookups.specs.Places.{statePlace}
-use Rattle.run.specs.Index.{IndexedTo, Indexed}
+use Rattle.run.specs.Working.Index.{IndexedTo, Indexed}
 
 pub none-filled : (T places : List ℕ) → length places ≡ 64 → IndexedTo 0 T places
 none-filled T places e = record { size = e; holds = λ i h. absurd (omega arith) }

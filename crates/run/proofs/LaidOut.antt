@@ -17,7 +17,7 @@ use Rattle.lookups.specs.Places.{testsOf, testOf}
 use Rattle.controller.specs.State.{none, stop, valueAt, stateAt}
 use Rattle.controller.specs.Tests.{compares, truth}
 use Rattle.scan.specs.Guards.{testHolds, atomOf}
-use Rattle.run.specs.Atoms.{Sees, LaidOutTo, LaidOut, noValue, processPlace, looksAt, equals, asked}
+use Rattle.run.specs.Working.Atoms.{Sees, LaidOutTo, LaidOut, noValue, processPlace, looksAt, equals, asked}
 
 -- By cases on a test.
 either : {P : Type 0} (t : Bool) → (t ≡ true → P) → (t ≡ false → P) → P

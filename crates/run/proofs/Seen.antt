@@ -19,7 +19,7 @@ use Rattle.controller.proofs.Arrays.{inside}
 use Rattle.controller.proofs.Equal.{same-seen-equal}
 use Rattle.scan.specs.Guards.{atomOf}
 use Rattle.scan.specs.Position.{packed, atomByte, atomBytes}
-use Rattle.run.specs.Atoms.{Sees, SeesValues, InReach, LaidOut, laidAtom}
+use Rattle.run.specs.Working.Atoms.{Sees, SeesValues, InReach, LaidOut, laidAtom}
 
 -- one more of what is put into a list, each at its own place
 put-more : (r : List ℕ) (place : ℕ → ℕ) (n y : ℕ) (g : ℕ → ℕ) → place n < length r → ((x : ℕ) → x < n → place x ≢ place n) → y ≡ g n →

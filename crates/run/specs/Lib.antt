@@ -2,6 +2,4 @@ pub mod Limits
 pub mod Moves
 pub mod Running
 pub mod Trace
-pub mod Index
-pub mod Atoms
-pub mod Walking
+pub mod Working

@@ -7,7 +7,7 @@ ghost use mathlib.Core.List.{List};
 ghost use lib.ListN.{length};
 ghost use Rattle.controller.specs.State.{statesOf};
 ghost use Rattle.scan.specs.Position.{packed, atomBytes};
-ghost use Rattle.run.specs.Atoms.{processPlace, looksAt, equals, asked, LaidOutTo, LaidOut, InReach, SeesValues, Sees, laidAtom};
+ghost use Rattle.run.specs.Working.Atoms.{processPlace, looksAt, equals, asked, LaidOutTo, LaidOut, InReach, SeesValues, Sees, laidAtom};
 
 // Room for 32 tests of three numbers each: where the test looks, the number that it compares with, and 1 where the two are to be equal.
 pub const LAID_OUT: usize = 96;

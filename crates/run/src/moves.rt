@@ -11,7 +11,7 @@ use controller::Outcome;
 use requirement::Phase;
 ghost use mathlib.Core.Path.{_≡_};
 ghost use Prim.Native.Nat.{_+_, _<_};
-ghost use Rattle.run.specs.Index.{Indexed};
+ghost use Rattle.run.specs.Working.Index.{Indexed};
 ghost use Rattle.run.specs.Moves.{to, stops, active, stepOf, usedAfter, afterAction, tooLong, unruled, before, actionMove, afterRead, afterWrite};
 ghost use Rattle.run.specs.Running.{recordedMove};
 

@@ -3,7 +3,7 @@ ghost use mathlib.Core.Path.{_≡_};
 ghost use Prim.Native.Nat.{ℕ, _+_, _-_, _*_, _<_};
 ghost use lib.ListN.{length, getD};
 ghost use Rattle.lookups.specs.Places.{statePlace};
-ghost use Rattle.run.specs.Index.{Indexed};
+ghost use Rattle.run.specs.Working.Index.{Indexed};
 
 // Room for 8 states of 8 processes.
 pub const PLACES: usize = 64;

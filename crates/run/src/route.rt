@@ -15,13 +15,13 @@ ghost use Rattle.coding.specs.Room.{over};
 ghost use Rattle.ranges.specs.Limits.{mostProcesses};
 ghost use mathlib.Core.List.{_∷_};
 ghost use Rattle.lasso.specs.Bytes.{phaseNumber};
-ghost use Rattle.run.specs.Index.{Indexed};
-ghost use Rattle.run.specs.Atoms.{LaidOut};
+ghost use Rattle.run.specs.Working.Index.{Indexed};
+ghost use Rattle.run.specs.Working.Atoms.{LaidOut};
 ghost use Rattle.run.specs.Limits.{lastState};
 ghost use Rattle.run.specs.Moves.{begun};
 ghost use Rattle.run.specs.Running.{here, stoppedAt, reached, turnOf, halted, closing, ranOf};
 ghost use Rattle.run.specs.Trace.{path};
-ghost use Rattle.run.specs.Walking.{Walked, cleared, clearedBy, Small};
+ghost use Rattle.run.specs.Working.Walking.{Walked, cleared, clearedBy, Small};
 
 // The last state that may arise.
 const LAST_STATE: usize = 4096;

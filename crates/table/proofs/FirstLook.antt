@@ -21,7 +21,7 @@ use Rattle.ranges.specs.declared.Want.{Want}
 use Rattle.ranges.specs.declared.Step.the-variants.{More, Last, NotAllowed as Bad}
 use Rattle.table.specs.declared.Role.{Role}
 use Rattle.table.specs.Table.{roleOf, noted, noCounts, ended, endedAt, check, countsFrom}
-use Rattle.table.specs.Skipping.{Passes}
+use Rattle.table.specs.Working.Skipping.{Passes}
 use Rattle.table.proofs.Steps.{check-item, counts-item, turned, stopped}
 use Rattle.table.proofs.Stands.{few-behind}
 

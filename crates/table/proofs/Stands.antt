@@ -19,7 +19,7 @@ use Rattle.ranges.specs.declared.Step.the-variants.{More, Last, NotAllowed}
 use Rattle.table.specs.declared.Role.{Role}
 use Rattle.table.specs.declared.Role.the-variants.{Other}
 use Rattle.table.specs.Table.{roleOf, noted}
-use Rattle.table.specs.Skipping.{Passes, Taken, onward}
+use Rattle.table.specs.Working.Skipping.{Passes, Taken, onward}
 use Rattle.table.proofs.Steps.{check-item, counts-item, turned}
 
 -- a next that is allowed, by what the two tests of it say

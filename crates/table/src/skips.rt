@@ -7,7 +7,7 @@ use ranges::Want;
 use ranges::allowed;
 ghost use mathlib.Core.Path.{_≡_};
 ghost use Prim.Native.Nat.{_<_, _≤_};
-ghost use Rattle.table.specs.Skipping.{Passes, Taken};
+ghost use Rattle.table.specs.Working.Skipping.{Passes, Taken};
 
 // Where the look stands: what is wanted, at which place, after how many numbers.
 pub struct Stand {

@@ -1,4 +1,4 @@
-use Rattle.run.specs.Atoms.{asked}
+use Rattle.run.specs.Working.Atoms.{asked}
 use borrow.Author.Needs.{needs}
 use Rattle.run.proofs.atoms.asked.Statement.{statement}
 use Rattle.run.proofs.atoms.asked.Tie as tie

@@ -4,7 +4,7 @@ use native.Mathlib.Nat.{add-zero}
 use native.Mathlib.Omega.{arith}
 use Rattle.scan.specs.Position.{packed}
 use Rattle.scan.proofs.Position.{packed-room, packed-next, one-digit}
-use Rattle.run.specs.Atoms.{laidAtom}
+use Rattle.run.specs.Working.Atoms.{laidAtom}
 use Rattle.run.proofs.Seen.{place-fits, place-scaled, in-sight, truth-digit}
 use borrow.Author.Needs.{needs}
 use Rattle.run.proofs.atoms.atom_byte.Statement.{statement}

@@ -1,5 +1,5 @@
 use mathlib.Core.Path.{refl}
-use Rattle.run.specs.Atoms.{equals}
+use Rattle.run.specs.Working.Atoms.{equals}
 use Rattle.run.proofs.LaidOut.{equal-asked, greater-asked}
 use Rattle.run.proofs.atoms.equals.Statement.{statement}
 use Rattle.run.proofs.atoms.equals.Tie as tie

@@ -1,6 +1,6 @@
 use Prim.Native.Nat.{_-_, _≤_}
 use native.Mathlib.Omega.{arith}
-use Rattle.run.specs.Atoms.{LaidOutTo}
+use Rattle.run.specs.Working.Atoms.{LaidOutTo}
 use Rattle.run.proofs.LaidOut.{none-laid, next-laid, all-laid}
 use borrow.Author.Needs.{needs}
 use Rattle.run.proofs.atoms.lay_out.Statement.{statement}

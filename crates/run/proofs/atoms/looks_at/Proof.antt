@@ -1,6 +1,6 @@
 use mathlib.Core.Path.{refl}
 use borrow.Author.Tests.{eq-eqb, ne-eqb, lt-ltb, le-ltb}
-use Rattle.run.specs.Atoms.{looksAt}
+use Rattle.run.specs.Working.Atoms.{looksAt}
 use borrow.Author.Needs.{needs}
 use Rattle.run.proofs.atoms.looks_at.Statement.{statement}
 use Rattle.run.proofs.atoms.looks_at.Tie as tie

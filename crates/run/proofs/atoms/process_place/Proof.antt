@@ -1,7 +1,7 @@
 use native.Mathlib.Omega.{arith}
 use mathlib.Core.Path.{refl}
 use borrow.Author.Tests.{lt-ltb, le-ltb}
-use Rattle.run.specs.Atoms.{processPlace}
+use Rattle.run.specs.Working.Atoms.{processPlace}
 use borrow.Author.Needs.{needs}
 use Rattle.run.proofs.atoms.process_place.Statement.{statement}
 use Rattle.run.proofs.atoms.process_place.Tie as tie

@@ -1,7 +1,7 @@
 use Prim.Native.Nat.{_-_, _≤_}
 use native.Mathlib.Omega.{arith}
 use borrow.Author.Needs.{needs}
-use Rattle.run.specs.Index.{IndexedTo}
+use Rattle.run.specs.Working.Index.{IndexedTo}
 use Rattle.run.proofs.Filled.{none-filled, one-filled, all-filled}
 use Rattle.run.proofs.places.fill.Statement.{statement}
 use Rattle.run.proofs.places.fill.Tie as tie

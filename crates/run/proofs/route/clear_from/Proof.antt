@@ -3,7 +3,7 @@ use mathlib.Core.Path.{_≡_}
 use native.Mathlib.Omega.{arith}
 use lib.ListN.{length}
 use borrow.Author.Needs.{needs}
-use Rattle.run.specs.Walking.{cleared}
+use Rattle.run.specs.Working.Walking.{cleared}
 use Rattle.run.proofs.Clearing.{clear-again, clear-done}
 use Rattle.run.proofs.route.clear_from.Statement.{statement}
 use Rattle.run.proofs.route.clear_from.Tie as tie

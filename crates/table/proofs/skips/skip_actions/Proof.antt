@@ -1,7 +1,7 @@
 use Prim.Native.Nat.{_-_}
 use native.Mathlib.Omega.{arith}
 use Rattle.ranges.specs.declared.Want.the-variants.{Op}
-use Rattle.table.specs.Skipping.{Passes}
+use Rattle.table.specs.Working.Skipping.{Passes}
 use Rattle.table.proofs.Stands.{stays, few-behind, acted}
 use borrow.Author.Needs.{needs}
 use Rattle.table.proofs.skips.skip_actions.Statement.{statement}

@@ -1,7 +1,7 @@
 use native.Mathlib.Omega.{arith}
 use mathlib.Core.Path.{sym, _∙_}
 use Rattle.ranges.specs.declared.Want.the-variants.{Reading}
-use Rattle.table.specs.Skipping.{Passes}
+use Rattle.table.specs.Working.Skipping.{Passes}
 use Rattle.table.proofs.Stands.{stays, few-behind, seen}
 use borrow.Author.Needs.{needs}
 use Rattle.table.proofs.skips.skip_readings.Statement.{statement}
