@@ -24,7 +24,8 @@ use Rattle.run.specs.declared.Reached.{Reached}
 use Rattle.run.specs.declared.Ran.the-variants.{Closed, Halted, Refused}
 use Rattle.controller.proofs.Equal.{same-is-equal}
 use Rattle.endless.proofs.Accepted.{some-process, returns-below}
-use Rattle.endless.proofs.States.{stateAt, Arrived, Came, came, on-or-stopped}
+use Rattle.endless.specs.Recorded.{stateAt}
+use Rattle.endless.proofs.States.{Arrived, Came, came, on-or-stopped}
 
 -- There is a process; the run came to the end of scan b and from there to that of scan q, within the limit, and the two states are equal.
 pub record Ended (T I : List ℕ) (n start : ℕ) : Type 0 where

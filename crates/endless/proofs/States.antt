@@ -1,4 +1,4 @@
--- The states of a recorded run by their numbers, and what it means that a run came to the end of a scan.
+-- What it means that a run came to the end of a scan.
 -- Assumes nothing.
 use Prim.Native.Nat.{ℕ, zero, suc, _+_, _<_, _≤_}
 use native.Mathlib.Omega.{arith}
@@ -11,23 +11,17 @@ use mathlib.Core.List.{List}
 use lib.Dec.{ltb}
 use borrow.Author.Tests.{ltb-true, ltb-false}
 use Rattle.coding.specs.declared.Cause.{Cause}
-use Rattle.ranges.specs.Limits.{mostProcesses}
-use Rattle.run.specs.Moves.{begun}
 use Rattle.run.specs.Running.{recordedMove, here, reached}
 use Rattle.run.specs.declared.Going.{Going}
 use Rattle.run.specs.declared.Going.the-variants.{On, Stopped}
 use Rattle.run.specs.declared.Machine.{Machine}
 use Rattle.run.specs.declared.Reached.{Reached}
-
--- State number i of the recorded run, were every move to go on.
-unfoldable pub stateAt : List ℕ → List ℕ → ℕ → Machine
-stateAt T I zero = begun mostProcesses
-stateAt T I (suc i) = recordedMove T I (stateAt T I i) .machine
+use Rattle.endless.specs.Recorded.{stateAt, MovesOn}
 
 -- From state n on the moves go on, and k scans are done first at state l.
 pub record Arrived (T I : List ℕ) (k n l : ℕ) : Type 0 where
   pub from : n ≤ l
-  pub on : (j : ℕ) → n ≤ j → j < l → recordedMove T I (stateAt T I j) .going ≡ On
+  pub on : MovesOn T I n l
   pub before : (j : ℕ) → n ≤ j → j < l → stateAt T I j .scan < k
   pub done : k ≤ stateAt T I l .scan
 

@@ -1,0 +1,5 @@
+pub mod Text
+pub mod Allows
+pub mod Due
+pub mod Leading
+pub mod Staying
