@@ -4,3 +4,7 @@ pub mod Sound
 pub mod Planning
 pub mod Kept
 pub mod Reached
+pub mod MoveKinds
+pub mod Going
+pub mod Refused
+pub mod Answered

@@ -1,28 +1,23 @@
 -- A run stays in its table: every state of a run of an allowed table is one that the table allows, and what a process does there is what the table has for it.
 -- Assumes nothing.
 use Prim.Native.Nat.{ℕ, zero, suc, _-_}
-use mathlib.Core.Path.{_≡_, refl}
-use mathlib.Core.Bool.{Bool, true, false}
+use mathlib.Core.Path.{_≡_}
 use mathlib.Core.List.{List, _∷_}
 use native.Mathlib.Omega.{arith}
 use lib.ListN.{length, replicate, length-replicate, getD-replicate}
-use lib.Dec.{eqb, ltb}
-use borrow.Author.Tests.{eqb-false, ltb-false}
 use Rattle.coding.specs.Code.{Code, values}
 use Rattle.coding.specs.declared.Answer.the-variants.{Count}
 use Rattle.ranges.specs.Limits.{mostProcesses}
 use Rattle.table.specs.Table.{tableGrammar}
 use Rattle.structure.specs.Allowed.{OneOf, Allowed}
 use Rattle.structure.proofs.Whole.{accepted-is-allowed}
-use Rattle.lookups.specs.Places.{processesOf, scansOf, returnOf}
+use Rattle.lookups.specs.Places.{scansOf, returnOf}
 use Rattle.lookups.specs.Structure.{Table, numbersOf}
 use Rattle.lookups.proofs.Structured.{joined}
 use Rattle.controller.specs.State.{start, entering, stopped, recordAt}
 use Rattle.controller.specs.declared.Process.{Process}
 use Rattle.controller.specs.declared.Controller.{Controller}
-use Rattle.run.specs.Moves.{begun, stepOf, tooLong, unruled, before, unless, afterAction, actionMove, moveOf}
-use Rattle.run.specs.declared.Going.{Going}
-use Rattle.run.specs.declared.Going.the-variants.{On, Stopped}
+use Rattle.run.specs.Moves.{begun, stepOf, moveOf}
 use Rattle.run.specs.declared.Machine.{Machine}
 use Rattle.endless.specs.Recorded.{stateAt}
 use Rattle.endless.specs.Unrolled.{recordedScan, endlessState}
@@ -31,33 +26,23 @@ use Rattle.invariants.specs.Leading.{Leads, there, move}
 use Rattle.invariants.specs.Staying.{Inside, Stays}
 use Rattle.invariants.proofs.Sound.{Sound, sound}
 use Rattle.invariants.proofs.Planning.{step-found, step-due}
+use Rattle.invariants.proofs.MoveKinds.{by-kind}
 use Rattle.invariants.proofs.Kept.{step-kept, read-kept, write-kept, first-allowed, stopped-allowed}
 
 module _ (t : Table) (s : Sound t) where
   pub step-allowed : (i : ℕ) (c : Controller) → OneOf i (length (t .processes)) → StateAllowed t c → StateAllowed t (stepOf (numbersOf t) i c .state)
   step-allowed i c b h = rw (step-found t s i c b h) (step-kept t s i c b h)
 
-  unless-allowed : (g : Going) (m l : Machine) → StateAllowed t (m .state) → StateAllowed t (l .state) → StateAllowed t (unless g m l .machine .state)
-  unless-allowed On m l h k = k
-  unless-allowed (Stopped cause) m l h k = h
-
   -- Whichever scan's inputs are read, and whether or not the move goes on.
   pub move-allowed : (I : List ℕ) (d : ℕ) (m : Machine) → StateAllowed t (m .state) → StateAllowed t (moveOf (numbersOf t) I d m .machine .state)
-  unfolding moveOf actionMove
-  move-allowed I d m h = go (eqb i 0) (ltb (processesOf (numbersOf t)) i) refl refl
-    where
-      i : ℕ
-      i = m .state .counter
-
-      go : (x y : Bool) → eqb i 0 ≡ x → ltb (processesOf (numbersOf t)) i ≡ y → StateAllowed t (moveOf (numbersOf t) I d m .machine .state)
-      go true y e f = rw e (read-kept t s (numbersOf t) I d (m .state) h)
-      go false true e f = rw (e, f) (write-kept t s (numbersOf t) (m .state) h)
-      go false false e f =
-          let n : ¬ (i ≡ 0) = eqb-false i 0 e in
-          let last = ltb-false (processesOf (numbersOf t)) i f in
-          let all = joined t .processes in
-          let a = stepOf (numbersOf t) i (m .state) in
-          rw (e, f) (unless-allowed (before (tooLong (m .used)) (unruled (a .outcome))) m (afterAction m (a .outcome) (a .state)) h (step-allowed i (m .state) (omega arith) h))
+  move-allowed I d m h =
+      let all = joined t .processes in
+      by-kind (λ x. StateAllowed t (x .machine .state)) (numbersOf t) I d m
+      (λ e. read-kept t s (numbersOf t) I d (m .state) h)
+      (λ e f. write-kept t s (numbersOf t) (m .state) h)
+      (λ a l e. step-allowed (m .state .counter) (m .state) (omega arith) h)
+      (λ a l e. step-allowed (m .state .counter) (m .state) (omega arith) h)
+      (λ cause f. h)
 
   pub leads-allowed : {I : List ℕ} {n : ℕ} {m l : Machine} → Leads (numbersOf t) I n m l → StateAllowed t (m .state) → StateAllowed t (l .state)
   leads-allowed there h = h

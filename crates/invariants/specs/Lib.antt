@@ -3,3 +3,5 @@ pub mod Allows
 pub mod Due
 pub mod Leading
 pub mod Staying
+pub mod Refusals
+pub mod Accepting
