@@ -15,9 +15,9 @@ use Rattle.run.specs.Running.{recordedMove}
 use Rattle.run.specs.declared.Going.the-variants.{On}
 use Rattle.run.specs.declared.Machine.{Machine}
 use Rattle.run.specs.declared.Moved.{Moved}
+use Rattle.endless.specs.Recorded.{stateAt}
 use Rattle.endless.specs.Unrolled.{recordedScan, endlessState}
 use Rattle.endless.proofs.Moves.{withScan, by-move}
-use Rattle.endless.proofs.States.{stateAt}
 use Rattle.endless.proofs.Ended.{Ended}
 use Rattle.endless.proofs.Phases.{Fits}
 use Rattle.endless.proofs.Along.{moves-on, scan-below, fits-at, start-ends, start-below, last-ends}

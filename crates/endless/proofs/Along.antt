@@ -14,7 +14,8 @@ use Rattle.lookups.specs.Places.{scansOf, returnOf}
 use Rattle.controller.specs.State.{start as startOf}
 use Rattle.run.specs.Running.{recordedMove}
 use Rattle.run.specs.declared.Going.the-variants.{On}
-use Rattle.endless.proofs.States.{stateAt, Arrived}
+use Rattle.endless.specs.Recorded.{stateAt}
+use Rattle.endless.proofs.States.{Arrived}
 use Rattle.endless.proofs.Phases.{Fits, Goes, goes}
 use Rattle.endless.proofs.Ended.{Ended}
 

@@ -23,8 +23,9 @@ use Rattle.run.specs.declared.Going.the-variants.{On}
 use Rattle.run.specs.declared.Reached.{Reached}
 use Rattle.run.specs.declared.Ran.the-variants.{Closed, Halted, Refused}
 use Rattle.controller.proofs.Equal.{same-is-equal}
+use Rattle.endless.specs.Recorded.{stateAt}
 use Rattle.endless.proofs.Accepted.{some-process, few-tests, returns-below}
-use Rattle.endless.proofs.States.{stateAt, Arrived, Came, came, on-or-stopped}
+use Rattle.endless.proofs.States.{Arrived, Came, came, on-or-stopped}
 
 -- There is a process and no test above the 32nd; the run came to the end of scan b and from there to that of scan q, within the limit, and the two states are equal.
 pub record Ended (T I : List ℕ) (n start : ℕ) : Type 0 where
@@ -73,7 +74,7 @@ met q n start back last e = go (sameState (last .machine .state) (back .machine 
         record { same = same-is-equal (last .machine .state) (back .machine .state) f; n-is = cc; start-is = cc }
 
 module _ (T I : List ℕ) where
-  came-back : toReturn T I .going ≡ On → Came T I (returnOf I) 0 lastState (toReturn T I)
+  pub came-back : toReturn T I .going ≡ On → Came T I (returnOf I) 0 lastState (toReturn T I)
   unfolding toReturn stateAt
   came-back g = came T I (returnOf I) (lastState - 0) 0 g
 
@@ -84,7 +85,7 @@ module _ (T I : List ℕ) where
       let most : r .number + (lastState - r .number) ≡ lastState = omega arith in
       rw e (rw most at (came T I k (lastState - r .number) (r .number) (rw e at g)))
 
-  came-end : Came T I (returnOf I) 0 lastState (toReturn T I) → toEnd T I .going ≡ On → Came T I (scansOf I) (toReturn T I .number) lastState (toEnd T I)
+  pub came-end : Came T I (returnOf I) 0 lastState (toReturn T I) → toEnd T I .going ≡ On → Came T I (scansOf I) (toReturn T I .number) lastState (toEnd T I)
   unfolding toEnd
   came-end c g = came-last (toReturn T I) (scansOf I) (c .machine) (c .bound) g
 

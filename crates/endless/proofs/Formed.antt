@@ -16,7 +16,7 @@ use Rattle.lasso.specs.Bytes.{positions, phaseFrom, phaseByte, traceOf}
 use Rattle.lasso.specs.Checking.{lengthOk, checkTrace}
 use Rattle.lasso.proofs.WellFormed.{well-formed-is-accepted}
 use Rattle.run.specs.Trace.{traceBytes}
-use Rattle.endless.proofs.States.{stateAt}
+use Rattle.endless.specs.Recorded.{stateAt}
 use Rattle.endless.proofs.Ended.{Ended}
 use Rattle.endless.proofs.Along.{follows-at, start-ends, start-below, last-ends}
 use Rattle.endless.proofs.Stored.{phase-back, phase-small, trace-size, positions-is, trace-phase}

@@ -1,33 +1,28 @@
--- The states of a recorded run by their numbers, and what it means that a run came to the end of a scan.
+-- What it means that a run came to the end of a scan.
 -- Assumes nothing.
 use Prim.Native.Nat.{ℕ, zero, suc, _+_, _<_, _≤_}
 use native.Mathlib.Omega.{arith}
 use native.Mathlib.Nat.{eq-or-lt-of-le}
 use native.Mathlib.Numerals.{add-one}
-use mathlib.Core.Path.{_≡_, refl, sym, _∙_}
+use mathlib.Core.Path.{_≡_, refl}
 use mathlib.Core.Logic.{_⊎_, inl, inr, ⊎-elim}
 use mathlib.Core.Bool.{Bool, true, false}
 use mathlib.Core.List.{List}
 use lib.Dec.{ltb}
 use borrow.Author.Tests.{ltb-true, ltb-false}
 use Rattle.coding.specs.declared.Cause.{Cause}
-use Rattle.ranges.specs.Limits.{mostProcesses}
-use Rattle.run.specs.Moves.{begun}
-use Rattle.run.specs.Running.{recordedMove, here, reached}
+use Rattle.coding.specs.declared.Cause.the-variants.{LongRun}
+use Rattle.run.specs.Running.{recordedMove, here, stoppedAt, reached}
 use Rattle.run.specs.declared.Going.{Going}
 use Rattle.run.specs.declared.Going.the-variants.{On, Stopped}
 use Rattle.run.specs.declared.Machine.{Machine}
 use Rattle.run.specs.declared.Reached.{Reached}
-
--- State number i of the recorded run, were every move to go on.
-unfoldable pub stateAt : List ℕ → List ℕ → ℕ → Machine
-stateAt T I zero = begun mostProcesses
-stateAt T I (suc i) = recordedMove T I (stateAt T I i) .machine
+use Rattle.endless.specs.Recorded.{stateAt, MovesOn}
 
 -- From state n on the moves go on, and k scans are done first at state l.
 pub record Arrived (T I : List ℕ) (k n l : ℕ) : Type 0 where
   pub from : n ≤ l
-  pub on : (j : ℕ) → n ≤ j → j < l → recordedMove T I (stateAt T I j) .going ≡ On
+  pub on : MovesOn T I n l
   pub before : (j : ℕ) → n ≤ j → j < l → stateAt T I j .scan < k
   pub done : k ≤ stateAt T I l .scan
 
@@ -46,21 +41,21 @@ on-or-stopped (Stopped cause) = inr (cause, refl)
 
 -- ---- the ways of the definition
 module _ (T I : List ℕ) (k n : ℕ) (m : Machine) where
-  is-here : (more : ℕ) → ltb (m .scan) k ≡ false → reached T I k more n m ≡ here n m
+  pub is-here : (more : ℕ) → ltb (m .scan) k ≡ false → reached T I k more n m ≡ here n m
   unfolding reached
   is-here zero e = rw e
   is-here (suc more) e = rw e
 
-  is-stopped : (more : ℕ) (cause : Cause) → ltb (m .scan) k ≡ true → recordedMove T I m .going ≡ Stopped cause → reached T I k more n m .going ≡ Stopped cause
+  pub is-stopped : (more : ℕ) (cause : Cause) → ltb (m .scan) k ≡ true → recordedMove T I m .going ≡ Stopped cause → reached T I k more n m ≡ stoppedAt cause n m
   unfolding reached
   is-stopped zero cause e f = rw (e, f)
   is-stopped (suc more) cause e f = rw (e, f)
 
-  no-room : ltb (m .scan) k ≡ true → recordedMove T I m .going ≡ On → reached T I k 0 n m .going ≡ On → ⊥
+  pub no-room : ltb (m .scan) k ≡ true → recordedMove T I m .going ≡ On → reached T I k 0 n m ≡ stoppedAt LongRun n m
   unfolding reached
-  no-room e f g = never (rw (e, f) at g)
+  no-room e f = rw (e, f)
 
-  goes-on : (more : ℕ) → ltb (m .scan) k ≡ true → recordedMove T I m .going ≡ On → reached T I k (suc more) n m ≡ reached T I k more (suc n) (recordedMove T I m .machine)
+  pub goes-on : (more : ℕ) → ltb (m .scan) k ≡ true → recordedMove T I m .going ≡ On → reached T I k (suc more) n m ≡ reached T I k more (suc n) (recordedMove T I m .machine)
   unfolding reached
   goes-on more e f = rw (e, f, add-one n)
 
@@ -100,7 +95,7 @@ module _ (T I : List ℕ) (k : ℕ) where
       go : (b : Bool) → ltb (stateAt T I n .scan) k ≡ b → Came T I k n (n + 0) (reached T I k 0 n (stateAt T I n))
       go false e = rw (is-here T I k n (stateAt T I n) 0 e) (came-here n (n + 0) (omega arith) e)
       go true e =
-          ⊎-elim (λ f. absurd (no-room T I k n (stateAt T I n) e f g)) (λ (cause, f). absurd (never (sym (is-stopped T I k n (stateAt T I n) 0 cause e f) ∙ g)))
+          ⊎-elim (λ f. absurd (never (rw (no-room T I k n (stateAt T I n) e f) at g))) (λ (cause, f). absurd (never (rw (is-stopped T I k n (stateAt T I n) 0 cause e f) at g)))
           (on-or-stopped (recordedMove T I (stateAt T I n) .going))
   came (suc more) n g = go (ltb (stateAt T I n .scan) k) refl (came more (suc n))
     where
@@ -109,5 +104,5 @@ module _ (T I : List ℕ) (k : ℕ) where
           Came T I k n (n + suc more) (reached T I k (suc more) n (stateAt T I n))
       go false e next = rw (is-here T I k n (stateAt T I n) (suc more) e) (came-here n (n + suc more) (omega arith) e)
       go true e next =
-          ⊎-elim (λ f. further n more g e f next) (λ (cause, f). absurd (never (sym (is-stopped T I k n (stateAt T I n) (suc more) cause e f) ∙ g)))
+          ⊎-elim (λ f. further n more g e f next) (λ (cause, f). absurd (never (rw (is-stopped T I k n (stateAt T I n) (suc more) cause e f) at g)))
           (on-or-stopped (recordedMove T I (stateAt T I n) .going))

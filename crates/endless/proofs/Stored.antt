@@ -17,7 +17,7 @@ use Rattle.controller.specs.declared.Controller.{Controller}
 use Rattle.scan.specs.Guards.{atomOf}
 use Rattle.scan.specs.Position.{packed, atomByte, atomBytes, stateBytes}
 use Rattle.run.specs.Trace.{path, traceBytes}
-use Rattle.endless.proofs.States.{stateAt}
+use Rattle.endless.specs.Recorded.{stateAt}
 
 -- ---- truths packed into a number
 pub packed-bit : (n : ℕ) (f : ℕ → Bool) (i k : ℕ) → k < n → bitB (packed n f i) k ≡ f (i + k)

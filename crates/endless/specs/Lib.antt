@@ -1,3 +1,4 @@
+pub mod Recorded
 pub mod Unrolled
 pub mod ByTheRules
 pub mod Bench

@@ -1,0 +1,10 @@
+pub mod Acting
+pub mod Stepping
+pub mod Sound
+pub mod Planning
+pub mod Kept
+pub mod Reached
+pub mod MoveKinds
+pub mod Going
+pub mod Refused
+pub mod Answered

@@ -1,0 +1,98 @@
+-- A run stays in its table: every state of a run of an allowed table is one that the table allows, and what a process does there is what the table has for it.
+-- Assumes nothing.
+use Prim.Native.Nat.{ℕ, zero, suc, _-_}
+use mathlib.Core.Path.{_≡_}
+use mathlib.Core.List.{List, _∷_}
+use native.Mathlib.Omega.{arith}
+use lib.ListN.{length, replicate, length-replicate, getD-replicate}
+use Rattle.coding.specs.Code.{Code, values}
+use Rattle.coding.specs.declared.Answer.the-variants.{Count}
+use Rattle.ranges.specs.Limits.{mostProcesses}
+use Rattle.table.specs.Table.{tableGrammar}
+use Rattle.structure.specs.Allowed.{OneOf, Allowed}
+use Rattle.structure.proofs.Whole.{accepted-is-allowed}
+use Rattle.lookups.specs.Places.{scansOf, returnOf}
+use Rattle.lookups.specs.Structure.{Table, numbersOf}
+use Rattle.lookups.proofs.Structured.{joined}
+use Rattle.controller.specs.State.{start, entering, stopped, recordAt}
+use Rattle.controller.specs.declared.Process.{Process}
+use Rattle.controller.specs.declared.Controller.{Controller}
+use Rattle.run.specs.Moves.{begun, stepOf, moveOf}
+use Rattle.run.specs.declared.Machine.{Machine}
+use Rattle.endless.specs.Recorded.{stateAt}
+use Rattle.endless.specs.Unrolled.{recordedScan, endlessState}
+use Rattle.invariants.specs.Allows.{RecordAllowed, StateAllowed}
+use Rattle.invariants.specs.Leading.{Leads, there, move}
+use Rattle.invariants.specs.Staying.{Inside, Stays}
+use Rattle.invariants.proofs.Sound.{Sound, sound}
+use Rattle.invariants.proofs.Planning.{step-found, step-due}
+use Rattle.invariants.proofs.MoveKinds.{by-kind}
+use Rattle.invariants.proofs.Kept.{step-kept, read-kept, write-kept, first-allowed, stopped-allowed}
+
+module _ (t : Table) (s : Sound t) where
+  pub step-allowed : (i : ℕ) (c : Controller) → OneOf i (length (t .processes)) → StateAllowed t c → StateAllowed t (stepOf (numbersOf t) i c .state)
+  step-allowed i c b h = rw (step-found t s i c b h) (step-kept t s i c b h)
+
+  -- Whichever scan's inputs are read, and whether or not the move goes on.
+  pub move-allowed : (I : List ℕ) (d : ℕ) (m : Machine) → StateAllowed t (m .state) → StateAllowed t (moveOf (numbersOf t) I d m .machine .state)
+  move-allowed I d m h =
+      let all = joined t .processes in
+      by-kind (λ x. StateAllowed t (x .machine .state)) (numbersOf t) I d m
+      (λ e. read-kept t s (numbersOf t) I d (m .state) h)
+      (λ e f. write-kept t s (numbersOf t) (m .state) h)
+      (λ a l e. step-allowed (m .state .counter) (m .state) (omega arith) h)
+      (λ a l e. step-allowed (m .state .counter) (m .state) (omega arith) h)
+      (λ cause f. h)
+
+  pub leads-allowed : {I : List ℕ} {n : ℕ} {m l : Machine} → Leads (numbersOf t) I n m l → StateAllowed t (m .state) → StateAllowed t (l .state)
+  leads-allowed there h = h
+  leads-allowed {I} (move {m = m} e p) h = leads-allowed p (move-allowed I (m .scan) m h)
+
+  inside : (m : Machine) → StateAllowed t (m .state) → Inside t (numbersOf t) m
+  inside m h = record { allowed = h; due = λ b. step-due t s (m .state .counter) (m .state) b h }
+
+-- The start, where there is room for the table's processes.
+start-allowed : (n : ℕ) (t : Table) (s : Sound t) → OneOf (length (t .processes)) n → StateAllowed t (start n)
+unfolding start recordAt
+start-allowed n t s b = record { room = let e = length-replicate {A = Process} (n - 1) stopped in omega arith; records = go }
+  where
+    go : (p : ℕ) → OneOf p (length (t .processes)) → RecordAllowed t p (recordAt (entering 1 1 ∷ replicate (n - 1) stopped) p)
+    go zero d = absurd (omega arith)
+    go (suc zero) d = first-allowed t s 1 d
+    go (suc (suc q)) d =
+        let e : suc (suc q) - 1 ≡ suc q = omega arith in
+        rw (e, getD-replicate (n - 1) q stopped stopped (omega arith)) (stopped-allowed t s (suc (suc q)))
+
+module _ (t : Table) (h : Allowed mostProcesses t) where
+  abbrev first : StateAllowed t (start mostProcesses)
+  first = let s = sound mostProcesses t h in start-allowed mostProcesses t s (h .process-count)
+
+  -- State j of the run over whatever was recorded: if its moves up to there go on, that is the state that arises; and if not, the one at which it was stopped.
+  pub run-allowed : (I : List ℕ) (j : ℕ) → StateAllowed t (stateAt (numbersOf t) I j .state)
+  unfolding stateAt
+  run-allowed I zero = first
+  run-allowed I (suc j) = move-allowed t (sound mostProcesses t h) I (stateAt (numbersOf t) I j .scan) (stateAt (numbersOf t) I j) (run-allowed I j)
+
+  -- State n of the endless run.
+  pub endless-allowed : (I : List ℕ) (n : ℕ) → StateAllowed t (endlessState (numbersOf t) I n .state)
+  unfolding endlessState
+  endless-allowed I zero = first
+  endless-allowed I (suc n) =
+      let m = endlessState (numbersOf t) I n in
+      move-allowed t (sound mostProcesses t h) I (recordedScan (scansOf I) (returnOf I) (m .scan)) m (endless-allowed I n)
+
+  -- However many moves were made since the start.
+  pub led-allowed : {I : List ℕ} {n : ℕ} {m : Machine} → Leads (numbersOf t) I n (begun mostProcesses) m → StateAllowed t (m .state)
+  led-allowed p = leads-allowed t (sound mostProcesses t h) p first
+
+  pub run-stays : Stays t (numbersOf t)
+  run-stays = let s = sound mostProcesses t h in record {
+    recorded = λ I j. inside t s (stateAt (numbersOf t) I j) (run-allowed I j);
+    unrolled = λ I n. inside t s (endlessState (numbersOf t) I n) (endless-allowed I n);
+  }
+
+-- So in every run of numbers that the reader accepts: they are those of an allowed table, and the run stays in it.
+pub accepted-run-allowed : (c : Code) (n : ℕ) → tableGrammar mostProcesses c ≡ Count n → (t : Table) × (values c ≡ numbersOf t) × Allowed mostProcesses t × Stays t (values c)
+accepted-run-allowed c n e =
+    let a = accepted-is-allowed mostProcesses (omega arith) c n e in
+    (a .0, a .1, a .2, rw (a .1) (run-stays (a .0) (a .2)))

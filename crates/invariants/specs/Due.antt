@@ -1,0 +1,43 @@
+-- What a process does next, told by the table as it is made up: skip, the end of the body, or an action that the table has for it. No look-up answers what it answers
+-- where there is nothing.
+-- Assumes nothing: these are definitions. That a step of the run is always such a one is a theorem (proofs/Reached.antt).
+use Prim.Native.Nat.{ℕ, _-_, _≤_}
+use mathlib.Core.Path.{_≡_}
+use mathlib.Core.Bool.{Bool, true, false}
+use mathlib.Core.List.{List}
+use lib.ListN.{length}
+use lib.Dec.{eqb}
+use Rattle.ranges.specs.Values.{pick}
+use Rattle.lookups.specs.Structure.{Table}
+use Rattle.lookups.specs.declared.TestRow.{TestRow}
+use Rattle.lookups.specs.declared.ActionRow.{ActionRow}
+use Rattle.structure.specs.Allowed.{OneOf}
+use Rattle.controller.specs.Actions.{actionOf}
+use Rattle.controller.specs.State.{bodyEnd, statesOf, stateAt, valueAt, recordAt}
+use Rattle.controller.specs.Tests.{truth}
+use Rattle.controller.specs.Rules.{actOf}
+use Rattle.controller.specs.declared.Controller.{Controller}
+use Rattle.controller.specs.declared.Acted.{Acted}
+use Rattle.controller.specs.declared.Action.{Action}
+use Rattle.controller.specs.declared.Action.the-variants.{Skip, End}
+use Rattle.run.specs.Moves.{active}
+use Rattle.invariants.specs.Text.{statesFor, rowFor, testFor, There}
+
+-- A guard and the choice of the next action, by whatever tells test k.
+unfoldable pub guardBy : (ℕ → TestRow) → List ℕ → List ℕ → ℕ → Bool
+guardBy test v f g = pick (eqb g 0) true (truth (test (g - 1) .kind) (test (g - 1) .b) (valueAt v (test (g - 1) .a)) (stateAt f (test (g - 1) .a)))
+
+unfoldable pub nextBy : (ℕ → TestRow) → Controller → ActionRow → ℕ
+nextBy test c r = pick (guardBy test (c .variables) (statesOf (c .processes)) (r .guard)) (r .«next_if») (r .«next_else»)
+
+-- The action that a row codes.
+abbrev pub codedBy : ActionRow → Action
+codedBy r = actionOf (r .op) (r .x) (r .y)
+
+-- What process i makes of the state: by skip in an inactive state; by the end in a state of the table; or by the table's own action, whose guard is 0 or a test that the
+-- table has.
+pub data Due (t : Table) (i : ℕ) (c : Controller) : Acted → Type 0 where
+  skips : active (recordAt (c .processes) i .state) ≡ false → Due t i c (actOf i Skip 0 c)
+  ends : OneOf (recordAt (c .processes) i .state) (length (statesFor t i)) → recordAt (c .processes) i .action ≡ bodyEnd → Due t i c (actOf i End 0 c)
+  acts : (s a : ℕ) → recordAt (c .processes) i .state ≡ s → recordAt (c .processes) i .action ≡ a → There t i s a →
+      rowFor t i s a .guard ≤ length (t .tests) → Due t i c (actOf i (codedBy (rowFor t i s a)) (nextBy (testFor t) c (rowFor t i s a)) c)

@@ -1,0 +1,24 @@
+-- A run stays in its table: each state of it is one that the table allows, and what a process does next is what the table has for it.
+-- Assumes nothing: these are definitions. That it is so of every run is a theorem (proofs/Reached.antt).
+use Prim.Native.Nat.{ℕ}
+use mathlib.Core.List.{List}
+use lib.ListN.{length}
+use Rattle.lookups.specs.Structure.{Table}
+use Rattle.structure.specs.Allowed.{OneOf}
+use Rattle.run.specs.Moves.{stepOf}
+use Rattle.run.specs.declared.Machine.{Machine}
+use Rattle.endless.specs.Recorded.{stateAt}
+use Rattle.endless.specs.Unrolled.{endlessState}
+use Rattle.invariants.specs.Allows.{StateAllowed}
+use Rattle.invariants.specs.Due.{Due}
+
+-- A machine of the numbers T: its state is allowed, and where the counter names a process, so that its action is the next move, that is skip, the end, or an action
+-- that the table has.
+pub record Inside (t : Table) (T : List ℕ) (m : Machine) : Type 0 where
+  pub allowed : StateAllowed t (m .state)
+  pub due : OneOf (m .state .counter) (length (t .processes)) → Due t (m .state .counter) (m .state) (stepOf T (m .state .counter) (m .state))
+
+-- Every state of the run over any recorded inputs, and of the endless run when these repeat.
+pub record Stays (t : Table) (T : List ℕ) : Type 0 where
+  pub recorded : (I : List ℕ) (j : ℕ) → Inside t T (stateAt T I j)
+  pub unrolled : (I : List ℕ) (n : ℕ) → Inside t T (endlessState T I n)
