@@ -40,6 +40,6 @@ pub shown-of-run : All (StatedOn (traceOf (traceBytes (numbersIn benchTable) (nu
 shown-of-run = subst (λ (t : Trace). All (StatedOn t) marked) (sym bench-lasso) shown
 
 -- The slip of document 01 that is of the run.
-pub timer-run : (runOf 20480 timerTable timerInputs ≡ Closed 16 8) × (traceBytes (numbersIn timerTable) (numbersIn timerInputs) 16 ≡ timerBytes)
+pub timer-run : (runOf 20480 timerTable timerInputs ≡ Closed 22 11) × (traceBytes (numbersIn timerTable) (numbersIn timerInputs) 22 ≡ timerBytes)
 unfolding sourceOf testOf afterStates afterProcesses processPlace statePlace rowFrom actionFrom rowOf readingOf up goes timed entering valueAt statesOf stateAt recordAt withRecord start raised allRaised updated elapsed waited restarted actOf actionOf compares truth sameValues sameRecord sameRecords sameState testHolds guardHolds nextOf atomOf taken readOf written writeOf packed atomByte atomBytes stateBytes active stepOf tooLong actionMove moveOf reached toReturn toEnd closing ranOf path runOf within totalOk isInternal isVariable testAOk opOk xOk yOk usesNexts guardOk usesElse nextOk allowed atSources afterSource atTests afterTest afterAction numberAt codeAt check countsFrom stateOk testsFrom tableGrammar inputsGrammar
 timer-run = (refl, refl)
