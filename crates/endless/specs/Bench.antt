@@ -9,6 +9,10 @@ benchTable = 1 ∷ 1 ∷ 1 ∷ 1 ∷ 2 ∷ 0 ∷ 0 ∷ 1 ∷ 0 ∷ 2 ∷ 1 ∷ 1
 abbrev pub benchInputs : List ℕ
 benchInputs = 3 ∷ 1 ∷ 0 ∷ 1 ∷ 0 ∷ []
 
+-- The bench table's inputs for the second trace of the computed cases, whose loop holds one Input.
+abbrev pub oneInputInputs : List ℕ
+oneInputInputs = 2 ∷ 1 ∷ 1 ∷ 1 ∷ []
+
 -- "Slips this must exclude: .. A timer started and raised in the same scan": a table whose one process waits with
 -- bound 2 and then sets its variable, and six scans without inputs, after which it goes on as after scan 3.
 abbrev pub timerTable : List ℕ
