@@ -6,7 +6,7 @@ use mathlib.Core.List.{List}
 use Prim.Native.Nat.{ℕ}
 use Rattle.meaning.specs.Trace.{Trace}
 use Rattle.lasso.specs.Bytes.{traceOf}
-use Rattle.marked.specs.Marked.{benchBytes, bench, StatedOn, All, marked}
+use Rattle.marked.specs.Marked.{benchBytes, oneInputBytes, bench, StatedOn, All, marked}
 use Rattle.marked.proofs.Cases.{shown}
 use Rattle.ranges.specs.Values.{within, totalOk, isInternal, isVariable, testAOk, opOk, xOk, yOk, usesNexts, guardOk, usesElse, nextOk}
 use Rattle.ranges.specs.Order.{allowed, atSources, afterSource, atTests, afterTest, afterAction}
@@ -26,7 +26,7 @@ use Rattle.run.specs.Moves.{active, stepOf, tooLong, actionMove, moveOf}
 use Rattle.run.specs.Running.{reached, toReturn, toEnd, closing, ranOf}
 use Rattle.run.specs.Trace.{path, traceBytes, numbersIn, runOf}
 use Rattle.run.specs.declared.Ran.the-variants.{Closed}
-use Rattle.endless.specs.Bench.{benchTable, benchInputs, timerTable, timerInputs, timerBytes}
+use Rattle.endless.specs.Bench.{benchTable, benchInputs, oneInputInputs, timerTable, timerInputs, timerBytes}
 
 pub bench-run : (runOf 20480 benchTable benchInputs ≡ Closed 12 4) × (traceBytes (numbersIn benchTable) (numbersIn benchInputs) 12 ≡ benchBytes)
 unfolding sourceOf testOf afterStates afterProcesses processPlace statePlace rowFrom actionFrom rowOf readingOf up goes timed entering valueAt statesOf stateAt recordAt withRecord start raised allRaised updated elapsed waited restarted actOf actionOf compares truth sameValues sameRecord sameRecords sameState testHolds guardHolds nextOf atomOf taken readOf written writeOf packed atomByte atomBytes stateBytes active stepOf tooLong actionMove moveOf reached toReturn toEnd closing ranOf path runOf within totalOk isInternal isVariable testAOk opOk xOk yOk usesNexts guardOk usesElse nextOk allowed atSources afterSource atTests afterTest afterAction numberAt codeAt check countsFrom stateOk testsFrom tableGrammar inputsGrammar
@@ -39,7 +39,12 @@ bench-lasso = ap (λ (s : List ℕ). traceOf s 4) (bench-run .1)
 pub shown-of-run : All (StatedOn (traceOf (traceBytes (numbersIn benchTable) (numbersIn benchInputs) 12) 4)) marked
 shown-of-run = subst (λ (t : Trace). All (StatedOn t) marked) (sym bench-lasso) shown
 
+-- The second trace of the computed cases is a run's too.
+pub one-input-run : (runOf 20480 benchTable oneInputInputs ≡ Closed 8 4) × (traceBytes (numbersIn benchTable) (numbersIn oneInputInputs) 8 ≡ oneInputBytes)
+unfolding bench-run
+one-input-run = (refl, refl)
+
 -- The slip of document 01 that is of the run.
-pub timer-run : (runOf 20480 timerTable timerInputs ≡ Closed 16 8) × (traceBytes (numbersIn timerTable) (numbersIn timerInputs) 16 ≡ timerBytes)
-unfolding sourceOf testOf afterStates afterProcesses processPlace statePlace rowFrom actionFrom rowOf readingOf up goes timed entering valueAt statesOf stateAt recordAt withRecord start raised allRaised updated elapsed waited restarted actOf actionOf compares truth sameValues sameRecord sameRecords sameState testHolds guardHolds nextOf atomOf taken readOf written writeOf packed atomByte atomBytes stateBytes active stepOf tooLong actionMove moveOf reached toReturn toEnd closing ranOf path runOf within totalOk isInternal isVariable testAOk opOk xOk yOk usesNexts guardOk usesElse nextOk allowed atSources afterSource atTests afterTest afterAction numberAt codeAt check countsFrom stateOk testsFrom tableGrammar inputsGrammar
+pub timer-run : (runOf 20480 timerTable timerInputs ≡ Closed 22 11) × (traceBytes (numbersIn timerTable) (numbersIn timerInputs) 22 ≡ timerBytes)
+unfolding bench-run
 timer-run = (refl, refl)

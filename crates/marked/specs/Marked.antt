@@ -27,6 +27,17 @@ benchBytes =
 abbrev pub bench : Trace
 bench = traceOf benchBytes 4
 
+-- A second trace, of the same table with the inputs 2 1 1 1 (scan 2 reads what scan 1 read, and is repeated): eight
+-- positions, loop start 4; Input at 1 and 5, so that the loop holds one Input; Output at 0 and 4; atom 0 from 1 on, atom 1
+-- from 4 on.
+abbrev pub oneInputBytes : List ℕ
+oneInputBytes =
+    2 ∷ 0 ∷ 0 ∷ 0 ∷ 0 ∷ 0 ∷ 1 ∷ 0 ∷ 0 ∷ 0 ∷ 1 ∷ 1 ∷ 0 ∷ 0 ∷ 0 ∷ 1 ∷ 1 ∷ 0 ∷ 0 ∷ 0
+    ∷ 2 ∷ 3 ∷ 0 ∷ 0 ∷ 0 ∷ 0 ∷ 3 ∷ 0 ∷ 0 ∷ 0 ∷ 1 ∷ 3 ∷ 0 ∷ 0 ∷ 0 ∷ 1 ∷ 3 ∷ 0 ∷ 0 ∷ 0 ∷ []
+
+abbrev pub oneInput : Trace
+oneInput = traceOf oneInputBytes 4
+
 -- A marked case, and what it says of a lasso.
 pub data Case : Type 0 where
   holds : Requirement → ℕ → Case
@@ -82,16 +93,43 @@ All P (c ∷ cs) = P c × All P cs
 abbrev pub never : Requirement
 never = two And (atom 0) (one Not (atom 0))
 
--- Three of the four of "Slips this must exclude", on the same trace; the fourth, "A timer started and raised in the same scan", belongs to the run. The last
--- case here is of Meaning's last sentence: "The published G^e target, "not Exe", is wrong at Input".
+-- Three of the four of "Slips this must exclude", on the same trace; the fourth, "A timer started and raised in the same
+-- scan", belongs to the run. Behind them the published forms that do not say what their operator means, each with the case
+-- that tells the two apart: "The published G^e target, "not Exe", is wrong at Input; the published X^i form is wrong off
+-- Input", and so are the published F^e at Input and the published X^o off Output.
 abbrev pub slips : List Case
 slips =
     -- "An until that is granted by going round the loop for ever."
     fails (two (Until Plain) (one Not never) never) 0
-    -- "X^i from an Exe state taken as the nearest Input": that one would hold at 6 (M5 says that X^i does not).
+    -- "X^i from an Exe state taken as the nearest Input", which is the published form: that one would hold at 6 (M5 says
+    -- that X^i does not).
     ∷ holds (one (Next Plain) (two (Until Plain) (one Not (mark Input)) (two And (mark Input) (atom 1)))) 6
     -- "Walking the loop once only, so that F misses what lies before the join."
     ∷ holds (one (Ever Plain) (two And (mark Input) (atom 0))) 9
     -- By the published target G^e would hold at 5 (M7 says that it does not).
     ∷ holds (two (Until Plain) (two And (atom 0) (mark Exe)) (one Not (mark Exe))) 5
+    -- F^e a0 holds at the Input 5, for atom 0 holds at the Exe 6; the published form, Exe U (a0 and Exe), asks for Exe at 5
+    -- already.
+    ∷ holds (one (Ever Within) (atom 0)) 5
+    ∷ fails (two (Until Plain) (mark Exe) (two And (atom 0) (mark Exe))) 5
+    -- Off Output, at the Exe 6, the Outputs to come are 8 and then 4, a lap later: X^o is about 4, where atom 1 does not
+    -- hold. The published form would take the nearest, 8. At the Output 4 they agree: 8 is the second.
+    ∷ fails (one (Next (Each Writes)) (atom 1)) 6
+    ∷ holds (one (Next Plain) (two (Until Plain) (one Not (mark Output)) (two And (mark Output) (atom 1)))) 6
+    ∷ holds (one (Next (Each Writes)) (atom 1)) 4
+    ∷ []
+
+-- Cases of the second trace.
+abbrev pub oneInputCases : List Case
+oneInputCases =
+    -- At the loop's one Input, 5, the second of the input sequence is 5 itself, a lap later: neither is there none, nor is
+    -- it the Input 1, at which atom 1 does not hold.
+    holds (one (Next (Each Reads)) (atom 1)) 5
+    ∷ fails (one (Next (Each Reads)) (one Not (atom 1))) 5
+    -- From the Exe 6 both are that position, one lap and two laps later; from the Input 1 the second is 5.
+    ∷ holds (one (Next (Each Reads)) (atom 1)) 6
+    ∷ holds (one (Next (Each Reads)) (atom 1)) 1
+    -- A finding before the loop: at the Input 1 atom 0 holds and atom 1 does not. It is none of the endless repetition, and
+    -- it counts: "every input position of the lasso".
+    ∷ finds answered (1 ∷ [])
     ∷ []

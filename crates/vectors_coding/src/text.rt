@@ -60,12 +60,12 @@ fn say_row(row: &[u16], n: usize) {
     }
 }
 
-// Changes with every number of the row and with its place.
+// Changes with every number of the row and with its place: the modulus is a prime, and the powers of 257 below the row's length all differ.
 fn checksum(row: &[u16]) -> u64 {
     let mut sum: u64 = 0;
     let mut i: usize = 0;
     while i < row.len() {
-        sum = (sum * 31 + wide(row[i])) % 65536;
+        sum = (sum * 257 + wide(row[i])) % 4294967291;
         i += 1;
     }
     sum

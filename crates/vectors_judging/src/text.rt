@@ -101,12 +101,12 @@ pub fn pair_at(bytes: &[u8], at: usize) -> u16 {
     high * 256 + low
 }
 
-// Changes with every byte of a buffer and with its place.
+// Changes with every byte of a buffer and with its place: the modulus is a prime, and the powers of 257 below the buffer's length all differ.
 fn checksum(bytes: &[u8]) -> u64 {
     let mut sum: u64 = 0;
     let mut i: usize = 0;
     while i < bytes.len() {
-        sum = (sum * 31 + wide(bytes[i])) % 65536;
+        sum = (sum * 257 + wide(bytes[i])) % 4294967291;
         i += 1;
     }
     sum

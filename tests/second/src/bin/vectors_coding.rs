@@ -124,7 +124,7 @@ fn widened(bytes: &[u8]) -> Vec<u16> {
 
 /// Changes with every number of the row and with its place.
 fn checksum(row: &[u16]) -> u64 {
-    row.iter().fold(0, |sum, value| (sum * 31 + *value as u64) % 65536)
+    row.iter().fold(0, |sum, value| (sum * 257 + *value as u64) % 4294967291)
 }
 
 /// The records, and the line for each.

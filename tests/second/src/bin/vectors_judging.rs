@@ -94,7 +94,7 @@ fn row_words(row: &[usize]) -> String {
 
 /// Changes with every byte of a buffer and with its place.
 fn checksum(buffer: &[u8]) -> u64 {
-    buffer.iter().fold(0, |sum, byte| (sum * 31 + *byte as u64) % 65536)
+    buffer.iter().fold(0, |sum, byte| (sum * 257 + *byte as u64) % 4294967291)
 }
 
 /// The records, and the line for each.
