@@ -1,8 +1,10 @@
 pub mod Splitting
 pub mod Putting
+pub mod Digits
 pub mod Listing
 pub mod Few
 pub mod Answering
 pub mod Enough
 pub mod Unique
+pub mod Front
 pub mod Bench
