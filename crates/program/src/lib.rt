@@ -1,4 +1,5 @@
-// scancheck as one function: standard input in, the report on it out to standard output. A program over it only makes the two buffers.
+// scancheck as one function: standard input in, the report on it out to standard output. A program over it only makes
+// the two buffers.
 ghost use Prim.Native.Nat.{_≤_};
 ghost use lib.ListN.{length, take};
 ghost use Rattle.report.specs.Printing.{Prints};
@@ -36,8 +37,9 @@ fn write_front(output: &[u8], count: usize) -> bool
     io::write_all(STANDARD_OUTPUT, &output[0..count])
 }
 
-// Reads standard input, reports on what was read, and writes the report's text to standard output. What is left in both buffers is promised; that the bytes read are those of
-// the input, and that those written arrive, is the operating system's part, of which no promise can speak.
+// Reads standard input, reports on what was read, and writes the report's text to standard output. What is left in both
+// buffers is promised; that the bytes read are those of the input, and that those written arrive, is the operating
+// system's part, of which no promise can speak.
 pub fn check_input(input: &mut [u8; INPUT], output: &mut [u8; OUTPUT]) -> Checked
     ensures { λ r. ⌜ Checks r (now (input .exit)) (now (output .entry)) (now (output .exit)) ⌝ }
 {

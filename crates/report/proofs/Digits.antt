@@ -14,7 +14,8 @@ use Rattle.report.specs.Digits.{denotedFrom, denoted, DigitsOnly, Spells
 use Rattle.report.proofs.Putting.{digits-one, digits-more}
 
 -- ---- one digit more behind a row of digits
-denoted-more : (sofar : ℕ) (xs : List ℕ) (c : ℕ) → denotedFrom sofar (xs ++ (c ∷ [])) ≡ denotedFrom sofar xs * 10 + (c - 48)
+denoted-more : (sofar : ℕ) (xs : List ℕ) (c : ℕ) →
+    denotedFrom sofar (xs ++ (c ∷ [])) ≡ denotedFrom sofar xs * 10 + (c - 48)
 unfolding denotedFrom
 denoted-more sofar [] c = refl
 denoted-more sofar (x ∷ xs) c = denoted-more (sofar * 10 + (x - 48)) xs c
@@ -31,7 +32,13 @@ first-more (x ∷ xs) c h = refl
 module _ (n : ℕ) where
   one-digit : n < 10 → Spells n ((48 + n) ∷ [])
   unfolding denotedFrom DigitsOnly
-  one-digit h = record { digits-only = ((omega arith, omega arith), tt); some = omega arith; denotes = omega arith; no-zero-first = λ e. omega (arith, e) }
+  one-digit h =
+      record {
+        digits-only = ((omega arith, omega arith), tt);
+        some = omega arith;
+        denotes = omega arith;
+        no-zero-first = λ e. omega (arith, e);
+      }
 
   more-digits : (xs : List ℕ) → 10 ≤ n → Spells (n / 10) xs → Spells n (xs ++ ((48 + n % 10) ∷ []))
   more-digits xs h s = record {
@@ -46,12 +53,14 @@ pub digits-spell : (k n : ℕ) → n < 10 ^ suc k → Spells n (digits (suc k) n
 digits-spell zero n h = rw (digits-one 1 n (omega arith) (omega arith)) (one-digit n (omega arith))
 digits-spell (suc k) n h = go (ltb n 10) refl (λ l. digits-spell k (n / 10) l)
   where
-    go : (t : Bool) → ltb n 10 ≡ t → (n / 10 < 10 ^ suc k → Spells (n / 10) (digits (suc k) (n / 10))) → Spells n (digits (suc (suc k)) n)
+    go : (t : Bool) → ltb n 10 ≡ t → (n / 10 < 10 ^ suc k → Spells (n / 10) (digits (suc k) (n / 10))) →
+        Spells n (digits (suc (suc k)) n)
     go true e rest = let l : n < 10 = ltb-true _ _ e in rw (digits-one (suc (suc k)) n (omega arith) l) (one-digit n l)
     go false e rest =
         let l : 10 ≤ n = ltb-false _ _ e in
         let less : suc (suc k) - 1 ≡ suc k = omega arith in
-        rw (digits-more (suc (suc k)) n (omega arith) l, less) (more-digits n (digits (suc k) (n / 10)) l (rest (omega (arith, pow-suc 10 (suc k)))))
+        rw (digits-more (suc (suc k)) n (omega arith) l, less)
+        (more-digits n (digits (suc k) (n / 10)) l (rest (omega (arith, pow-suc 10 (suc k)))))
 
 -- What is printed for a number spells it, if it has at most 20 digits; every number of 64 bits has no more.
 pub decimal-spells : (n : ℕ) → n < 10 ^ 20 → Spells n (decimal n)

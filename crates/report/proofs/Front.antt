@@ -1,4 +1,5 @@
--- One byte more than an input may have is enough to know what is printed: a longer input is refused whatever comes behind.
+-- One byte more than an input may have is enough to know what is printed: a longer input is refused whatever comes
+-- behind.
 -- Assumes nothing.
 use Prim.Native.Nat.{ℕ, _≤_, _<_}
 use native.Mathlib.Omega.{arith}
@@ -26,13 +27,19 @@ module _ (s : List ℕ) where
   front-framing = go (ltb 60000 (length s)) refl
     where
       go : (t : Bool) → ltb 60000 (length s) ≡ t → framingOf (take 60001 s) ≡ framingOf s
-      go true e = let h : 60000 < length s = ltb-true _ _ e in sym (long-input (take 60001 s) (front-too-long h)) ∙ long-input s h
+      go true e =
+          let h : 60000 < length s = ltb-true _ _ e in
+          sym (long-input (take 60001 s) (front-too-long h)) ∙ long-input s h
       go false e = rw (same-of-short (ltb-false _ _ e))
 
   -- The report of the first 60,001 bytes is the report of the whole input.
-  pub front-reports : (text : List ℕ) → Reports s (framingOf s) text ↔ Reports (take 60001 s) (framingOf (take 60001 s)) text
+  pub front-reports : (text : List ℕ) →
+      Reports s (framingOf s) text ↔ Reports (take 60001 s) (framingOf (take 60001 s)) text
   front-reports text = go (ltb 60000 (length s)) refl
     where
-      go : (t : Bool) → ltb 60000 (length s) ≡ t → Reports s (framingOf s) text ↔ Reports (take 60001 s) (framingOf (take 60001 s)) text
-      go true e = let h : 60000 < length s = ltb-true _ _ e in rw (← long-input (take 60001 s) (front-too-long h), ← long-input s h) Iff·rfl
+      go : (t : Bool) → ltb 60000 (length s) ≡ t →
+          Reports s (framingOf s) text ↔ Reports (take 60001 s) (framingOf (take 60001 s)) text
+      go true e =
+          let h : 60000 < length s = ltb-true _ _ e in
+          rw (← long-input (take 60001 s) (front-too-long h), ← long-input s h) Iff·rfl
       go false e = rw (same-of-short (ltb-false _ _ e)) Iff·rfl

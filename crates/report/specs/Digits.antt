@@ -5,7 +5,8 @@ use mathlib.Core.Path.{_≡_}
 use mathlib.Core.List.{List, [], _∷_}
 use lib.ListN.{length, getD}
 
--- Digit characters, the highest first, where those before them come to a number: each makes ten of what was there and adds its own value.
+-- Digit characters, the highest first, where those before them come to a number: each makes ten of what was there and
+-- adds its own value.
 unfoldable pub denotedFrom : ℕ → List ℕ → ℕ
 denotedFrom sofar [] = sofar
 denotedFrom sofar (c ∷ cs) = denotedFrom (sofar * 10 + (c - 48)) cs
@@ -18,7 +19,8 @@ unfoldable pub DigitsOnly : List ℕ → Type 0
 DigitsOnly [] = Unit {0}
 DigitsOnly (c ∷ cs) = ((48 ≤ c) × (c ≤ 57)) × DigitsOnly cs
 
--- The text is a number as one writes it: digits, at least one, that denote it, and no '0' in front but for the number 0 itself.
+-- The text is a number as one writes it: digits, at least one, that denote it, and no '0' in front but for the number 0
+-- itself.
 pub record Spells (n : ℕ) (text : List ℕ) : Type 0 where
   pub digits-only : DigitsOnly text
   pub some : 1 ≤ length text
