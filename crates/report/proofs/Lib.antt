@@ -1,9 +1,11 @@
 pub mod Splitting
 pub mod Putting
+pub mod Digits
 pub mod Listing
 pub mod Few
 pub mod Answering
 pub mod Enough
 pub mod Unique
+pub mod Front
 pub mod Bench
 pub mod Right

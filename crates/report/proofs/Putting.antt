@@ -52,12 +52,12 @@ digits-none : (n : ℕ) → digits 0 n ≡ []
 unfolding digits
 digits-none n = refl
 
-digits-one : (k n : ℕ) → 0 < k → n < 10 → digits k n ≡ (48 + n) ∷ []
+pub digits-one : (k n : ℕ) → 0 < k → n < 10 → digits k n ≡ (48 + n) ∷ []
 unfolding digits
 digits-one zero n h l = absurd (omega arith)
 digits-one (suc k) n h l = rw (lt-ltb _ _ l)
 
-digits-more : (k n : ℕ) → 0 < k → 10 ≤ n → digits k n ≡ digits (k - 1) (n / 10) ++ ((48 + n % 10) ∷ [])
+pub digits-more : (k n : ℕ) → 0 < k → 10 ≤ n → digits k n ≡ digits (k - 1) (n / 10) ++ ((48 + n % 10) ∷ [])
 unfolding digits
 digits-more zero n h l = absurd (omega arith)
 digits-more (suc k) n h l = let one : suc k - 1 ≡ k = omega arith in rw (le-ltb _ _ l, one)

@@ -1,5 +1,6 @@
 pub mod Framing
 pub mod Lines
+pub mod Digits
 pub mod Reporting
 pub mod Bench
 pub mod Printing

@@ -1,0 +1,54 @@
+// scancheck as one function: standard input in, the report on it out to standard output. A program over it only makes
+// the two buffers.
+ghost use Prim.Native.Nat.{_≤_};
+ghost use lib.ListN.{length, take};
+ghost use Rattle.report.specs.Printing.{Prints};
+ghost use Rattle.program.specs.Program.{ReportOn, Checks};
+
+// One byte more than an input may have, so that a longer one is seen to be too long.
+pub const INPUT: usize = 60001;
+
+// No text is longer.
+pub const OUTPUT: usize = 100000;
+
+const STANDARD_INPUT: i32 = 0;
+
+const STANDARD_OUTPUT: i32 = 1;
+
+// How many bytes were read, how many the text has, and whether all of it was written.
+pub struct Checked {
+    pub read: usize,
+    pub length: usize,
+    pub written: bool,
+}
+
+// Puts the report on the first bytes of a buffer into another.
+fn report_front(input: &[u8], read: usize, output: &mut [u8]) -> usize
+    requires { ⌜ read ≤ length (now input) ⌝ }
+    ensures { λ r. ⌜ Prints (ReportOn (take read (now (input .entry)))) r (now (output .entry)) (now (output .exit)) ⌝ }
+{
+    report::report(&input[0..read], output)
+}
+
+// Writes the first bytes of a buffer to standard output.
+fn write_front(output: &[u8], count: usize) -> bool
+    requires { ⌜ count ≤ length (now output) ⌝ }
+{
+    io::write_all(STANDARD_OUTPUT, &output[0..count])
+}
+
+// Reads standard input, reports on what was read, and writes the report's text to standard output. What is left in both
+// buffers is promised; that the bytes read are those of the input, and that those written arrive, is the operating
+// system's part, of which no promise can speak.
+pub fn check_input(input: &mut [u8; INPUT], output: &mut [u8; OUTPUT]) -> Checked
+    ensures { λ r. ⌜ Checks r (now (input .exit)) (now (output .entry)) (now (output .exit)) ⌝ }
+{
+    let read = io::read_full(STANDARD_INPUT, input);
+    let length = report_front(input, read, output);
+    let written = write_front(output, length);
+    Checked {
+        read,
+        length,
+        written,
+    }
+}
