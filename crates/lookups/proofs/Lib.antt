@@ -3,3 +3,4 @@ pub mod Order
 pub mod Structured
 pub mod Past
 pub mod Unique
+pub mod Recorded

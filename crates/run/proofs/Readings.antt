@@ -67,8 +67,8 @@ module _ (grammar : Code → Answer) (fair : Fair grammar) (most : ℕ) (fits : 
       }
 
 module _ (s : List ℕ) (r : Answer) (e : List ℕ) where
-  pub table-is-read : (r ≡ readBy (tableGrammar mostProcesses) s (zeros 6349)) × (e ≡ stored r (zeros 6349) (numbersIn s)) → Read (tableGrammar mostProcesses) s r e
-  table-is-read = reads (tableGrammar mostProcesses) (fair-table mostProcesses) 6349 table-size (zeros 6349) (length-replicate {A = ℕ} 6349 0) s r e
+  pub table-is-read : (r ≡ readBy (tableGrammar mostProcesses) s (zeros 6348)) × (e ≡ stored r (zeros 6348) (numbersIn s)) → Read (tableGrammar mostProcesses) s r e
+  table-is-read = reads (tableGrammar mostProcesses) (fair-table mostProcesses) 6348 table-size (zeros 6348) (length-replicate {A = ℕ} 6348 0) s r e
 
   pub inputs-are-read : (k : ℕ) → (r ≡ readBy (inputsGrammar k) s (zeros 43682)) × (e ≡ stored r (zeros 43682) (numbersIn s)) → Read (inputsGrammar k) s r e
   inputs-are-read k = reads (inputsGrammar k) (fair-inputs k) 43682 (inputs-size k) (zeros 43682) (length-replicate {A = ℕ} 43682 0) s r e

@@ -21,7 +21,7 @@ ghost use Rattle.lookups.specs.Places.{inputsOf};
 // The bytes of a trace of 4,096 positions, and room for the numbers of any table and of any inputs record.
 const TRACE_ROOM: usize = 20480;
 
-const TABLE_NUMBERS: usize = 6349;
+const TABLE_NUMBERS: usize = 6348;
 
 const INPUTS_NUMBERS: usize = 43682;
 

@@ -82,11 +82,11 @@ module _ (s name : List ℕ) where
       go (Bad cause place) q c rest = cc
 
   -- ---- the whole lookup
-  abbrev Counts : ℕ → Answer → Type 0
+  abbrev pub Counts : ℕ → Answer → Type 0
   Counts count (Count n) = n ≡ count
   Counts count (Refused cause place) = Unit {0}
 
-  check-counts : (count left at : ℕ) → Counts count (checkFrom s count left at)
+  pub check-counts : (count left at : ℕ) → Counts count (checkFrom s count left at)
   unfolding checkFrom
   check-counts count zero at = by (Counts count) (ltb at (length s)) (λ _. tt) (λ _. refl)
   check-counts count (suc left) at = go (entryAt s at) (λ next. check-counts count left next)
@@ -121,7 +121,7 @@ module _ (s name : List ℕ) where
           (seekFrom s name count start) (seek-first count start))
       go (Fault cause place) q = tt
 
-  accepted-sought : {count start : ℕ} → Accepted s count start → findIn s name ≡ seekFrom s name count start
+  pub accepted-sought : {count start : ℕ} → Accepted s count start → findIn s name ≡ seekFrom s name count start
   accepted-sought a = sym (find-sought s name _ _ (sym (a .counted)) (a .few) _ (sym (a .whole)))
 
   -- ---- "of equal names the first counts"

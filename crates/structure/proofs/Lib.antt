@@ -5,4 +5,5 @@ pub mod Front
 pub mod Values
 pub mod Counts
 pub mod Whole
+pub mod Records
 pub mod Sizes

@@ -51,13 +51,13 @@ abbrev pub Passing : ℕ → List ℕ → List ℕ → List ℕ → List ℕ →
 Passing most final after kept xs t = Then (λ next. Passes most final after next xs) ((xs ≡ []) × (kept ≡ final)) t
 
 -- What holds if an answer accepts.
-abbrev If : Answer → Type 0 → Type 0
+abbrev pub If : Answer → Type 0 → Type 0
 If (Count n) P = P
 If (Refused cause p) P = Unit {0}
 
 module _ (most : ℕ) where
   -- ---- from the grammar to the numbers
-  first : (c : Code) (want : Want) (n : ℕ) (kept : List ℕ) → If (check most want n c) (Ends most (countsFrom most want kept c) kept want (values c))
+  pub first : (c : Code) (want : Want) (n : ℕ) (kept : List ℕ) → If (check most want n c) (Ends most (countsFrom most want kept c) kept want (values c))
   unfolding check countsFrom
   first (end p) want n kept = tt
   first (broken cause p) want n kept = tt
@@ -91,7 +91,7 @@ module _ (most : ℕ) where
 
   -- ---- from the numbers to the grammar
   module _ (final : List ℕ) where
-    first-back : (c : Code) (want : Want) (n : ℕ) (kept : List ℕ) → Clean c → Ends most final kept want (values c) →
+    pub first-back : (c : Code) (want : Want) (n : ℕ) (kept : List ℕ) → Clean c → Ends most final kept want (values c) →
         (check most want n c ≡ Count (n + length (values c))) × (countsFrom most want kept c ≡ final)
     unfolding check countsFrom
     first-back (end p) want n kept l h = absurd h
