@@ -8,3 +8,7 @@ pub mod MoveKinds
 pub mod Going
 pub mod Refused
 pub mod Answered
+pub mod Values
+pub mod Phased
+pub mod Inputs
+pub mod Unset

@@ -5,3 +5,4 @@ pub mod Leading
 pub mod Staying
 pub mod Refusals
 pub mod Accepting
+pub mod Reading

@@ -1,0 +1,157 @@
+-- Inputs are never unset once read: they have what was recorded for the scan that was read last. So a run with an input variable never comes back to the start.
+-- Assumes nothing.
+use Prim.Native.Nat.{ℕ, zero, suc, _+_, _-_, _<_, _≤_}
+use native.Mathlib.Omega.{arith}
+use mathlib.Core.Path.{_≡_, refl, sym, ap, _∙_}
+use mathlib.Core.List.{List, []}
+use lib.ListN.{length, length-replicate}
+use Rattle.coding.specs.declared.Cause.{Cause}
+use Rattle.ranges.specs.Limits.{mostProcesses, mostVariables}
+use Rattle.requirement.specs.declared.Phase.{Phase}
+use Rattle.requirement.specs.declared.Phase.the-variants.{Input, Exe, Output}
+use Rattle.lookups.specs.Places.{inputsOf, outputsOf, scansOf, returnOf}
+use Rattle.lookups.specs.Structure.{Table, numbersOf}
+use Rattle.lookups.proofs.Structured.{joined}
+use Rattle.structure.specs.Allowed.{Allowed}
+use Rattle.controller.specs.State.{none, valueAt, start}
+use Rattle.controller.specs.declared.Controller.{Controller}
+use Rattle.scan.specs.Scanning.{readOf, writeOf}
+use Rattle.run.specs.Moves.{moveOf}
+use Rattle.run.specs.declared.Machine.{Machine}
+use Rattle.endless.specs.Recorded.{stateAt}
+use Rattle.endless.specs.Unrolled.{recordedScan, endlessState}
+use Rattle.endless.proofs.Phases.{Fit, Fits}
+use Rattle.invariants.specs.Allows.{StateAllowed}
+use Rattle.invariants.specs.Reading.{Holding, lastRead, InputsSet}
+use Rattle.invariants.proofs.Sound.{sound}
+use Rattle.invariants.specs.Refusals.{Acts, Forbids, long-turn, no-rule}
+use Rattle.invariants.proofs.Phased.{fits-always, fits-endless}
+use Rattle.invariants.proofs.MoveKinds.{stepIn, by-kind}
+use Rattle.invariants.proofs.Reached.{run-allowed, endless-allowed}
+use Rattle.invariants.proofs.Values.{Kept, unchanged, taken-size, taken-there, written-kept, step-inputs}
+
+-- Where a process or the write is next, the last read was that of the scan under way.
+under-way : (p : Phase) (c u s : ℕ) → Fit p c u → 0 < c → lastRead p s ≡ s
+under-way Input c u s f h = refl
+under-way Exe c u s f h = refl
+under-way Output c u s f h = absurd (omega arith)
+
+module _ (t : Table) (ok : Allowed mostProcesses t) (I : List ℕ) (scanRead : ℕ → ℕ) where
+  abbrev T : List ℕ
+  T = numbersOf t
+
+  -- Room for the input variables, and what they have: scanRead tells which recorded scan is read where so many are done.
+  abbrev Room : Machine → Type 0
+  Room m = t .inputs ≤ length (m .state .variables)
+
+  abbrev Held : Machine → Type 0
+  Held m = Holding T I (scanRead (lastRead (m .phase) (m .scan))) (m .state .variables)
+
+  abbrev moved : Machine → Machine
+  moved m = moveOf T I (scanRead (m .scan)) m .machine
+
+  kept-room : {v w : List ℕ} → Kept (t .inputs) v w → t .inputs ≤ length v → t .inputs ≤ length w
+  kept-room k h = rw (k .size) h
+
+  kept-holding : {d : ℕ} {v w : List ℕ} → Kept (t .inputs) v w → Holding T I d v → Holding T I d w
+  kept-holding k h = record { values = λ x b. k .same x (rw (joined t .inputs) at b) ∙ h .values x b }
+
+  written-same : (c : Controller) → Kept (t .inputs) (c .variables) (writeOf T c .variables)
+  unfolding writeOf
+  written-same c = rw (joined t .inputs) at (written-kept T (outputsOf T) 0 (c .variables))
+
+  step-same : (m : Machine) → StateAllowed t (m .state) → Acts T m → Kept (t .inputs) (m .state .variables) (stepIn T m .state .variables)
+  step-same m h a =
+      let all = joined t .processes in
+      step-inputs t (sound mostProcesses t ok) (m .state .counter) (omega arith) (m .state) h
+
+  read-room : (d : ℕ) (c : Controller) → t .inputs ≤ length (c .variables) → t .inputs ≤ length (readOf T I d c .variables)
+  unfolding readOf
+  read-room d c h = rw (taken-size I (inputsOf T) d (inputsOf T) 0 (c .variables)) h
+
+  read-holds : (d : ℕ) (c : Controller) → t .inputs ≤ length (c .variables) → Holding T I d (readOf T I d c .variables)
+  unfolding readOf
+  read-holds d c h =
+      let n = joined t .inputs in
+      record { values = λ k b. taken-there I (inputsOf T) d (inputsOf T) 0 k (c .variables) (omega arith) (omega arith) (omega arith) }
+
+  room-next : (m : Machine) → StateAllowed t (m .state) → Room m → Room (moved m)
+  room-next m h r =
+      by-kind (λ x. Room (x .machine)) T I (scanRead (m .scan)) m
+      (λ e. read-room (scanRead (m .scan)) (m .state) r)
+      (λ e f. kept-room (written-same (m .state)) r)
+      (λ a l e. kept-room (step-same m h a) r)
+      (λ a l e. kept-room (step-same m h a) r)
+      (λ cause f. r)
+
+  -- Where the next move is no read, the inputs have been read.
+  held-next : (m : Machine) → Fits m → StateAllowed t (m .state) → Room m → (0 < m .state .counter → Held m) → Held (moved m)
+  held-next m f h r before =
+      by-kind (λ x. Held (x .machine)) T I (scanRead (m .scan)) m
+      (λ e. read-holds (scanRead (m .scan)) (m .state) r)
+      (λ e g. let z : m .scan + 1 - 1 ≡ m .scan = omega arith in rw z (kept-holding (written-same (m .state)) (now e)))
+      (λ a l e. kept-holding (step-same m h a) (now (a .0)))
+      (λ a l e. kept-holding (step-same m h a) (now (a .0)))
+      (λ cause g. before (acting g))
+    where
+      now : 0 < m .state .counter → Holding T I (scanRead (m .scan)) (m .state .variables)
+      now k = rw (under-way (m .phase) (m .state .counter) (m .used) (m .scan) (f .fit) k) at (before k)
+
+      acting : {cause : Cause} → Forbids T m cause → 0 < m .state .counter
+      acting (long-turn a _) = a .0
+      acting (no-rule a _ _) = a .0
+
+module _ (t : Table) (ok : Allowed mostProcesses t) (I : List ℕ) where
+  -- ---- the recorded run
+  start-room : t .inputs ≤ length (start mostProcesses .variables)
+  unfolding start
+  start-room = let few = ok .total in let e = length-replicate {A = ℕ} mostVariables none in omega arith
+
+  room-at : (j : ℕ) → Room t ok I (λ s. s) (stateAt (numbersOf t) I j)
+  unfolding stateAt
+  room-at zero = start-room
+  room-at (suc j) = room-next t ok I (λ s. s) (stateAt (numbersOf t) I j) (run-allowed t ok I j) (room-at j)
+
+  held-next-at : (j : ℕ) → (0 < stateAt (numbersOf t) I j .state .counter → Held t ok I (λ s. s) (stateAt (numbersOf t) I j)) → Held t ok I (λ s. s) (stateAt (numbersOf t) I (suc j))
+  unfolding stateAt
+  held-next-at j = held-next t ok I (λ s. s) (stateAt (numbersOf t) I j) (fits-always (numbersOf t) I j) (run-allowed t ok I j) (room-at j)
+
+  begins-reading : stateAt (numbersOf t) I 0 .state .counter ≡ 0
+  unfolding stateAt start
+  begins-reading = refl
+
+  held-at : (j : ℕ) → Held t ok I (λ s. s) (stateAt (numbersOf t) I (suc j))
+  held-at zero = held-next-at 0 (λ h. absurd (omega (arith, begins-reading)))
+  held-at (suc j) = held-next-at (suc j) (λ h. held-at j)
+
+  -- State 1 is the one after the first read: from there on the input variables have what is recorded for the scan that was read last.
+  pub inputs-held : (j : ℕ) → 1 ≤ j → let m = stateAt (numbersOf t) I j in Holding (numbersOf t) I (lastRead (m .phase) (m .scan)) (m .state .variables)
+  inputs-held zero h = absurd (omega arith)
+  inputs-held (suc j) h = held-at j
+
+  -- ---- the endless run
+  abbrev again : ℕ → ℕ
+  again = recordedScan (scansOf I) (returnOf I)
+
+  room-then : (n : ℕ) → Room t ok I (recordedScan (scansOf I) (returnOf I)) (endlessState (numbersOf t) I n)
+  unfolding endlessState
+  room-then zero = start-room
+  room-then (suc n) = room-next t ok I again (endlessState (numbersOf t) I n) (endless-allowed t ok I n) (room-then n)
+
+  held-next-then : (n : ℕ) → (0 < endlessState (numbersOf t) I n .state .counter → Held t ok I (recordedScan (scansOf I) (returnOf I)) (endlessState (numbersOf t) I n)) →
+      Held t ok I (recordedScan (scansOf I) (returnOf I)) (endlessState (numbersOf t) I (suc n))
+  unfolding endlessState
+  held-next-then n = held-next t ok I again (endlessState (numbersOf t) I n) (fits-endless (numbersOf t) I n) (endless-allowed t ok I n) (room-then n)
+
+  endless-begins : endlessState (numbersOf t) I 0 .state .counter ≡ 0
+  unfolding endlessState start
+  endless-begins = refl
+
+  held-then : (n : ℕ) → Held t ok I (recordedScan (scansOf I) (returnOf I)) (endlessState (numbersOf t) I (suc n))
+  held-then zero = held-next-then 0 (λ h. absurd (omega (arith, endless-begins)))
+  held-then (suc n) = held-next-then (suc n) (λ h. held-then n)
+
+  pub endless-held : (n : ℕ) → 1 ≤ n → let m = endlessState (numbersOf t) I n in
+      Holding (numbersOf t) I (recordedScan (scansOf I) (returnOf I) (lastRead (m .phase) (m .scan))) (m .state .variables)
+  endless-held zero h = absurd (omega arith)
+  endless-held (suc n) h = held-then n
