@@ -43,7 +43,7 @@ scancheck_told scancheck_check_requirement(bool translated, const uint8_t *code,
  * Writing: numbers into bytes from buf[0] on. first: how many. Places are indices of numbers; 10 comes last, its place the bytes needed.
  * The rest of the buffer stays as it was; on a refusal all of it.
  */
-/* Refusals 1, 3, 4, 10. A requirement has at most 96 numbers, a translated one 1,056. */
+/* Refusals 1, 3, 4, 10. A requirement has at most 96 numbers, a translated one 1,056, and as many bytes. */
 scancheck_told scancheck_read_requirement(bool translated, const uint8_t *code, size_t code_length, uint16_t *out, size_t out_length);
 scancheck_told scancheck_write_requirement(bool translated, const uint16_t *numbers, size_t count, uint8_t *buf, size_t buf_length);
 

@@ -41,7 +41,8 @@ all-read-at inputs (scan ∷ scans) zero k h l m =
     rw e (List·getD-append scan (allRead scans) 0 k (omega arith))
 all-read-at inputs (scan ∷ scans) (suc done) k h l m =
     let e : inputs * suc done + k ≡ length scan + (inputs * done + k) = omega (arith, mul-suc inputs done, h .0) in
-    rw e (getD-append-add scan (allRead scans) (inputs * done + k) 0 ∙ all-read-at inputs scans done k (h .1) (omega arith) m)
+    let rest = all-read-at inputs scans done k (h .1) (omega arith) m in
+    rw e (getD-append-add scan (allRead scans) (inputs * done + k) 0 ∙ rest)
 
 -- Each look-up in the numbers of an inputs record finds what the record has there.
 pub record Recorded (inputs : ℕ) (r : Inputs) : Type 0 where

@@ -1,5 +1,5 @@
--- An inputs record as it is made up, and its numbers. Document 01, Coding: "Inputs: scans q (1 to 1,365), return scan b
--- (below q), then one number per input variable per scan."
+-- An inputs record as it is made up, and its numbers. Document 01, Coding:
+-- "Inputs: scans q (1 to 1,365), return scan b (below q), then one number per input variable per scan."
 -- Assumes nothing: these are definitions.
 use Prim.Native.Nat.{ℕ}
 use mathlib.Core.Path.{_≡_}
@@ -7,7 +7,7 @@ use mathlib.Core.List.{List, [], _∷_}
 use lib.ListN.{length}
 use Rattle.lookups.specs.Structure.{inOrder}
 
--- What is read in each scan, a list for each scan; and the scan from which the inputs repeat.
+-- What is read in each scan, a list for each; and the scan to whose end the last one returns (0: to the start).
 pub record Inputs : Type 0 where
   pub readings : List (List ℕ)
   pub return : ℕ

@@ -1,10 +1,13 @@
--- Every number of a requirement's code is one of the coding, below 65,536.
+-- Every number of a requirement's code is below 128. So it is one of the coding, and it is its own byte.
 -- Assumes nothing.
 use Prim.Native.Nat.{ℕ, zero, suc, _≤_, _<_}
 use native.Mathlib.Omega.{arith}
+use mathlib.Core.Path.{_≡_, refl}
 use mathlib.Core.List.{List, [], _∷_, _++_}
 use lib.ListN.{getD}
 use lib.Dec.{lit<}
+use Rattle.coding.specs.Code.{bytesOfAll}
+use Rattle.coding.proofs.Bytes.{bytes₁}
 use Rattle.requirement.specs.Requirement.{Requirement, atom, mark, one, two}
 use Rattle.requirement.specs.Tags.{codeOf, markNo, familyNo, oneNo, twoNo}
 use Rattle.requirement.specs.Limits.{Allowed}
@@ -19,42 +22,55 @@ use Rattle.requirement.specs.declared.One.the-variants.{Not, Next, Ever,
 use Rattle.requirement.specs.declared.Two.{Two}
 use Rattle.requirement.specs.declared.Two.the-variants.{And, Until}
 
-abbrev Small : List ℕ → Type 0
-Small xs = (i : ℕ) → getD xs i 0 < 65536
+abbrev Short : List ℕ → Type 0
+Short xs = (i : ℕ) → getD xs i 0 < 128
 
-small-cons : (v : ℕ) (xs : List ℕ) → v < 65536 → Small xs → Small (v ∷ xs)
-small-cons v xs h s zero = h
-small-cons v xs h s (suc i) = s i
+short-cons : (v : ℕ) (xs : List ℕ) → v < 128 → Short xs → Short (v ∷ xs)
+short-cons v xs h s zero = h
+short-cons v xs h s (suc i) = s i
 
-small-append : (xs ys : List ℕ) → Small xs → Small ys → Small (xs ++ ys)
-small-append [] ys s t i = t i
-small-append (x ∷ xs) ys s t zero = s 0
-small-append (x ∷ xs) ys s t (suc i) = small-append xs ys (λ j. s (suc j)) t i
+short-append : (xs ys : List ℕ) → Short xs → Short ys → Short (xs ++ ys)
+short-append [] ys s t i = t i
+short-append (x ∷ xs) ys s t zero = s 0
+short-append (x ∷ xs) ys s t (suc i) = short-append xs ys (λ j. s (suc j)) t i
 
-family-small : (c : Family) → familyNo c ≤ 20
-family-small Plain = omega arith
-family-small Within = omega arith
-family-small (Each Reads) = omega arith
-family-small (Each Writes) = omega arith
+family-short : (c : Family) → familyNo c ≤ 20
+family-short Plain = omega arith
+family-short Within = omega arith
+family-short (Each Reads) = omega arith
+family-short (Each Writes) = omega arith
 
-mark-small : (p : Phase) → markNo p < 65536
-mark-small Input = lit< tt
-mark-small Exe = lit< tt
-mark-small Output = lit< tt
+mark-short : (p : Phase) → markNo p < 128
+mark-short Input = lit< tt
+mark-short Exe = lit< tt
+mark-short Output = lit< tt
 
-one-small : (o : One) → oneNo o < 65536
-one-small Not = lit< tt
-one-small (Next c) = omega (arith, family-small c)
-one-small (Ever c) = omega (arith, family-small c)
-one-small (Always c) = omega (arith, family-small c)
+one-short : (o : One) → oneNo o < 128
+one-short Not = lit< tt
+one-short (Next c) = omega (arith, family-short c)
+one-short (Ever c) = omega (arith, family-short c)
+one-short (Always c) = omega (arith, family-short c)
 
-two-small : (o : Two) → twoNo o < 65536
-two-small And = lit< tt
-two-small (Until c) = omega (arith, family-small c)
+two-short : (o : Two) → twoNo o < 128
+two-short And = lit< tt
+two-short (Until c) = omega (arith, family-short c)
+
+short : (kind : Kind) (f : Requirement) → Allowed kind f → Short (codeOf f)
+unfolding codeOf Allowed
+short kind (atom k) a = short-cons 0 (k ∷ []) (lit< tt) (short-cons k [] (omega arith) (λ i. lit< tt))
+short kind (mark p) a = short-cons (markNo p) [] (mark-short p) (λ i. lit< tt)
+short kind (one o f) a = short-cons (oneNo o) (codeOf f) (one-short o) (short kind f (a .1))
+short kind (two o f g) a =
+    short-cons (twoNo o) (codeOf f ++ codeOf g) (two-short o)
+    (short-append (codeOf f) (codeOf g) (short kind f (a .1)) (short kind g (a .2)))
 
 pub small : (kind : Kind) (f : Requirement) → Allowed kind f → (i : ℕ) → getD (codeOf f) i 0 < 65536
-unfolding codeOf Allowed
-small kind (atom k) a = small-cons 0 (k ∷ []) (lit< tt) (small-cons k [] (omega arith) (λ i. lit< tt))
-small kind (mark p) a = small-cons (markNo p) [] (mark-small p) (λ i. lit< tt)
-small kind (one o f) a = small-cons (oneNo o) (codeOf f) (one-small o) (small kind f (a .1))
-small kind (two o f g) a = small-cons (twoNo o) (codeOf f ++ codeOf g) (two-small o) (small-append (codeOf f) (codeOf g) (small kind f (a .1)) (small kind g (a .2)))
+small kind f a i = omega (arith, short kind f a i)
+
+-- numbers below 128 are their own bytes
+as-bytes : (xs : List ℕ) → Short xs → bytesOfAll xs ≡ xs
+as-bytes [] s = refl
+as-bytes (x ∷ xs) s = rw (bytes₁ x (s 0), as-bytes xs (λ i. s (suc i)))
+
+pub own-bytes : (kind : Kind) (f : Requirement) → Allowed kind f → bytesOfAll (codeOf f) ≡ codeOf f
+own-bytes kind f a = as-bytes (codeOf f) (short kind f a)

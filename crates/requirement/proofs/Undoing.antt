@@ -25,7 +25,7 @@ accepts kind c = go (parsed kind c) refl
     go (whole f) e = (f, e, refl)
     go (unread cause place) e = tt
 
-accepted : (kind : Kind) (c : Code) (n : ℕ) → grammar kind c ≡ Count n → (f : Requirement) × (parsed kind c ≡ whole f) × (n ≡ length (values c))
+pub accepted : (kind : Kind) (c : Code) (n : ℕ) → grammar kind c ≡ Count n → (f : Requirement) × (parsed kind c ≡ whole f) × (n ≡ length (values c))
 accepted kind c n e = rw e at (accepts kind c)
 
 counts : (kind : Kind) (c : Code) (f : Requirement) → parsed kind c ≡ whole f → grammar kind c ≡ Count (length (values c))

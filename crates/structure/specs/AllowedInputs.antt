@@ -1,6 +1,5 @@
--- Which inputs records are allowed, said of a record as it is made up. Document 01, Coding: "Inputs: scans q (1 to
--- 1,365),
--- return scan b (below q), then one number per input variable per scan."
+-- Which inputs records are allowed, said of a record as it is made up. Document 01, Coding:
+-- "Inputs: scans q (1 to 1,365), return scan b (below q), then one number per input variable per scan."
 -- That a number is "0 to 65,535" is said by the coding, and not again here.
 -- Assumes nothing: these are definitions.
 use Prim.Native.Nat.{ℕ, _≤_, _<_}
