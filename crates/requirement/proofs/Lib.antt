@@ -7,6 +7,7 @@ pub mod Answers
 pub mod Small
 pub mod Codes
 pub mod Undoing
+pub mod Causes
 pub mod Examples
 pub mod Unique
 pub mod Walking
