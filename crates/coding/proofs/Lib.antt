@@ -2,6 +2,7 @@ pub mod Numbers
 pub mod Bytes
 pub mod Trip
 pub mod Rows
+pub mod Causes
 pub mod Loops
 pub mod Trips
 pub mod Source

@@ -8,9 +8,7 @@ use contract.Lifetimes.{Lfts}
 use borrow.Fn.Kinds.{Dens, endedOf}
 use denote.Ref.{now}
 use denote.Triple.Clauses.{AtExit}
-use Rattle.report.specs.Printing.{Prints}
 use Rattle.report.proofs.Unique.{one-text}
-use Rattle.program.specs.Program.{ReportOn}
 use Rattle.program.specs.declared.Checked.{Checked}
 use Rattle.program.proofs.check_input.Kinds as check-input
 use Rattle.program.proofs.check_input.Reads as check-input-reads

@@ -5,6 +5,8 @@ pub mod Listing
 pub mod Few
 pub mod Answering
 pub mod Enough
+pub mod Printed
+pub mod MadeUp
 pub mod Unique
 pub mod Front
 pub mod Bench

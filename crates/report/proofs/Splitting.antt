@@ -20,6 +20,14 @@ use Rattle.report.specs.declared.framing.Block.the-variants.{Found, Miss
 use Rattle.report.specs.declared.framing.Framed.{Framed}
 use Rattle.report.specs.declared.framing.Framed.the-variants.{Blocks, Faulty}
 
+-- What is said of a block, by what its length is read as.
+abbrev pub blockBy : List ℕ → ℕ → Number → Block
+blockBy s at x =
+    elim x [
+      | Value n next ↦ pick (ltb (length s - next) n) (Missing CutShort at) (Found next (next + n))
+      | Fault cause place ↦ Missing cause place
+    ]
+
 -- ---- the ways through `block_at`
 module _ (s : List ℕ) (at : ℕ) where
   pub no-length : (cause : Cause) (q : ℕ) → Fault cause q ≡ numberAt s at → Missing cause q ≡ blockAt s at
@@ -89,7 +97,7 @@ module _ (s : List ℕ) where
       sized n next true e l = tt
       sized n next false e l = let h = ltb-false (length s - next) n e in (omega arith, omega arith)
 
-      go : (x : Number) → Row s at x → Inside s (elim x [ Value n next ↦ pick (ltb (length s - next) n) (Missing CutShort at) (Found next (next + n)) | Fault cause place ↦ Missing cause place ])
+      go : (x : Number) → Row s at x → Inside s (blockBy s at x)
       go (Value n next) r = sized n next (ltb (length s - next) n) refl (r .2)
       go (Fault cause place) r = tt
 

@@ -1,7 +1,9 @@
 pub mod Framing
 pub mod Lines
 pub mod Digits
+pub mod MadeUp
 pub mod Reporting
+pub mod Printed
 pub mod Bench
 pub mod Printing
 pub mod Placing

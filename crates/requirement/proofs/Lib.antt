@@ -8,6 +8,7 @@ pub mod Small
 pub mod Codes
 pub mod Undoing
 pub mod Sizes
+pub mod Causes
 pub mod Examples
 pub mod Unique
 pub mod Walking

@@ -7,5 +7,6 @@ pub mod Whole
 pub mod Alike
 pub mod Fair
 pub mod Undone
+pub mod Causes
 pub mod Unique
 pub mod Examples
