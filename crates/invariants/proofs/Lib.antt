@@ -12,3 +12,6 @@ pub mod Values
 pub mod Phased
 pub mod Inputs
 pub mod Unset
+pub mod NextState
+pub mod Turned
+pub mod Once

@@ -6,3 +6,4 @@ pub mod Staying
 pub mod Refusals
 pub mod Accepting
 pub mod Reading
+pub mod Turns
