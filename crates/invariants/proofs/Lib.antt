@@ -15,3 +15,4 @@ pub mod Unset
 pub mod NextState
 pub mod Turned
 pub mod Once
+pub mod EachScan

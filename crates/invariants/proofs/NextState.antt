@@ -10,6 +10,7 @@ use lib.Dec.{eqb}
 use borrow.Author.Tests.{lt-ltb}
 use Rattle.coding.specs.declared.Cause.{Cause}
 use Rattle.ranges.specs.Values.{pick}
+use Rattle.requirement.specs.declared.Phase.{Phase}
 use Rattle.requirement.specs.declared.Phase.the-variants.{Input, Exe, Output}
 use Rattle.lookups.specs.Places.{processesOf}
 use Rattle.controller.specs.State.{up, bodyEnd, recordAt}
@@ -31,6 +32,12 @@ use Rattle.endless.proofs.States.{never}
 use Rattle.invariants.specs.Refusals.{Acts, Forbids, long-turn, no-rule}
 use Rattle.invariants.specs.Turns.{turnAt, outcomeAt}
 use Rattle.invariants.proofs.MoveKinds.{stepIn, by-kind}
+
+pub exe-or-output : {p : Phase} → p ≡ Exe → p ≡ Output → ⊥
+exe-or-output e f = let z : _≡_ {A = ℕ} 0 1 = cc in omega arith
+
+pub input-or-output : {p : Phase} → p ≡ Input → p ≡ Output → ⊥
+input-or-output e f = let z : _≡_ {A = ℕ} 0 1 = cc in omega arith
 
 -- ---- the counter after an action
 record Counts (n : ℕ) (a : Acted) : Type 0 where
@@ -130,6 +137,12 @@ module _ (T I : List ℕ) (d : ℕ) (m : Machine) where
       by-kind (λ x. ¬ (x .machine .phase ≡ Output) → x .machine .scan ≡ m .scan) T I d m
       (λ e n. refl) (λ e f n. absurd (n refl)) (λ a l e n. refl) (λ a l e n. refl) (λ cause f n. refl)
 
+  output-scan : moveOf T I d m .going ≡ On → moveOf T I d m .machine .phase ≡ Output → moveOf T I d m .machine .scan ≡ m .scan + 1
+  output-scan =
+      by-kind (λ x. x .going ≡ On → x .machine .phase ≡ Output → x .machine .scan ≡ m .scan + 1) T I d m
+      (λ e g o. absurd (input-or-output refl o)) (λ e f g o. refl) (λ a l e g o. absurd (exe-or-output refl o)) (λ a l e g o. absurd (exe-or-output refl o))
+      (λ cause f g o. absurd (never g))
+
 -- ---- the same of the states of a run
 module _ (T I : List ℕ) (k : ℕ) where
   pub acted-at : processesOf T < 65535 → Acts T (stateAt T I k) → recordedMove T I (stateAt T I k) .going ≡ On →
@@ -148,3 +161,7 @@ module _ (T I : List ℕ) (k : ℕ) where
   pub same-scan-at : ¬ (stateAt T I (suc k) .phase ≡ Output) → stateAt T I (suc k) .scan ≡ stateAt T I k .scan
   unfolding stateAt
   same-scan-at = same-scan T I (stateAt T I k .scan) (stateAt T I k)
+
+  pub output-scan-at : recordedMove T I (stateAt T I k) .going ≡ On → stateAt T I (suc k) .phase ≡ Output → stateAt T I (suc k) .scan ≡ stateAt T I k .scan + 1
+  unfolding stateAt
+  output-scan-at = output-scan T I (stateAt T I k .scan) (stateAt T I k)

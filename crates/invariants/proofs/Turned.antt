@@ -17,7 +17,7 @@ use Rattle.endless.specs.Recorded.{stateAt, MovesOn}
 use Rattle.endless.proofs.Phases.{Fit}
 use Rattle.invariants.specs.Turns.{turnAt, outcomeAt, Turn, Turns, none-left, turn, Reads, Writes, ScanOf}
 use Rattle.invariants.proofs.Phased.{fits-always}
-use Rattle.invariants.proofs.NextState.{Stayed, Passed, acted-at, read-at, written-at, same-scan-at}
+use Rattle.invariants.proofs.NextState.{exe-or-output, input-or-output, Stayed, Passed, acted-at, read-at, written-at, same-scan-at}
 
 -- ---- what is left of a turn in which u actions are done
 record Rest (T I : List ℕ) (p u from to : ℕ) : Type 0 where
@@ -63,12 +63,6 @@ module _ (T I : List ℕ) (p u k : ℕ) (whose : turnAt T I k ≡ p) (used : sta
       }
 
 -- ---- phases
-exe-or-output : {p : Phase} → p ≡ Exe → p ≡ Output → ⊥
-exe-or-output e f = let z : _≡_ {A = ℕ} 0 1 = cc in omega arith
-
-input-or-output : {p : Phase} → p ≡ Input → p ≡ Output → ⊥
-input-or-output e f = let z : _≡_ {A = ℕ} 0 1 = cc in omega arith
-
 -- A counter above 1 is of an Exe state, and an Output's counter is 0.
 above-one : (p : Phase) (c u : ℕ) → Fit p c u → 1 < c → p ≡ Exe
 above-one Input c u f h = absurd (omega arith)

@@ -11,6 +11,7 @@ use Rattle.controller.specs.declared.Outcome.the-variants.{Stays, Passes}
 use Rattle.run.specs.Limits.{longestTurn}
 use Rattle.run.specs.Moves.{stepOf}
 use Rattle.endless.specs.Recorded.{stateAt}
+use Rattle.invariants.specs.Refusals.{AfterScan}
 
 -- Whose turn it is at state k, and what comes of its action: it keeps the turn or passes it on.
 abbrev pub turnAt : List ℕ → List ℕ → ℕ → ℕ
@@ -54,6 +55,14 @@ pub record ScanOf (T I : List ℕ) (read write : ℕ) : Type 0 where
   pub turns : Turns T I 1 (suc read) write
   pub writes : Writes T I write
   pub one-scan : (k : ℕ) → read ≤ k → k ≤ write → stateAt T I k .scan ≡ stateAt T I read .scan
+
+-- Scan k + 1 of a run: its read starts from the state after scan k, and the state after its write is the state after scan k + 1.
+pub record Scanned (T I : List ℕ) (k : ℕ) : Type 0 where
+  pub read : ℕ
+  pub write : ℕ
+  pub after : AfterScan T I k read
+  pub scan : ScanOf T I read write
+  pub before : AfterScan T I (k + 1) (suc write)
 
 -- Process p passes its turn at state k.
 pub record PassesAt (T I : List ℕ) (p k : ℕ) : Type 0 where
