@@ -3,6 +3,7 @@ pub mod Stepping
 pub mod Sound
 pub mod Planning
 pub mod Kept
+pub mod Running
 pub mod Reached
 pub mod MoveKinds
 pub mod Going

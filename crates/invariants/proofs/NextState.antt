@@ -24,13 +24,12 @@ use Rattle.controller.specs.declared.Outcome.the-variants.{Stays, Passes}
 use Rattle.scan.specs.Scanning.{readOf, writeOf}
 use Rattle.run.specs.Limits.{longestTurn}
 use Rattle.run.specs.Moves.{stepOf, active, moveOf}
-use Rattle.run.specs.Running.{recordedMove}
 use Rattle.run.specs.declared.Going.the-variants.{On}
 use Rattle.run.specs.declared.Machine.{Machine}
-use Rattle.endless.specs.Recorded.{stateAt}
 use Rattle.endless.proofs.States.{never}
+use Rattle.invariants.specs.Runs.{RunOf, moveAt}
 use Rattle.invariants.specs.Refusals.{Acts, Forbids, long-turn, no-rule}
-use Rattle.invariants.specs.Turns.{turnAt, outcomeAt}
+use Rattle.invariants.specs.Turns.{turnAt}
 use Rattle.invariants.proofs.MoveKinds.{stepIn, by-kind}
 
 pub exe-or-output : {p : Phase} → p ≡ Exe → p ≡ Output → ⊥
@@ -144,24 +143,18 @@ module _ (T I : List ℕ) (d : ℕ) (m : Machine) where
       (λ cause f g o. absurd (never g))
 
 -- ---- the same of the states of a run
-module _ (T I : List ℕ) (k : ℕ) where
-  pub acted-at : processesOf T < 65535 → Acts T (stateAt T I k) → recordedMove T I (stateAt T I k) .going ≡ On →
-      Stayed T (stateAt T I k) (stateAt T I (suc k)) ⊎ Passed T (stateAt T I k) (stateAt T I (suc k))
-  unfolding stateAt
-  acted-at = acted T I (stateAt T I k .scan) (stateAt T I k)
+module _ {T I : List ℕ} {taking : ℕ → ℕ} {state : ℕ → Machine} (r : RunOf T I taking state) (k : ℕ) where
+  pub acted-at : processesOf T < 65535 → Acts T (state k) → moveAt T I taking state k .going ≡ On → Stayed T (state k) (state (suc k)) ⊎ Passed T (state k) (state (suc k))
+  acted-at few a g = rw (r .next k) (acted T I (taking (state k .scan)) (state k) few a g)
 
-  pub read-at : turnAt T I k ≡ 0 → WasRead (stateAt T I (suc k))
-  unfolding stateAt
-  read-at = was-read T I (stateAt T I k .scan) (stateAt T I k)
+  pub read-at : turnAt state k ≡ 0 → WasRead (state (suc k))
+  read-at e = rw (r .next k) (was-read T I (taking (state k .scan)) (state k) e)
 
-  pub written-at : processesOf T < turnAt T I k → WasWritten (stateAt T I k) (stateAt T I (suc k))
-  unfolding stateAt
-  written-at = was-written T I (stateAt T I k .scan) (stateAt T I k)
+  pub written-at : processesOf T < turnAt state k → WasWritten (state k) (state (suc k))
+  written-at h = rw (r .next k) (was-written T I (taking (state k .scan)) (state k) h)
 
-  pub same-scan-at : ¬ (stateAt T I (suc k) .phase ≡ Output) → stateAt T I (suc k) .scan ≡ stateAt T I k .scan
-  unfolding stateAt
-  same-scan-at = same-scan T I (stateAt T I k .scan) (stateAt T I k)
+  pub same-scan-at : ¬ (state (suc k) .phase ≡ Output) → state (suc k) .scan ≡ state k .scan
+  same-scan-at n = rw (r .next k) (same-scan T I (taking (state k .scan)) (state k) (rw (r .next k) at n))
 
-  pub output-scan-at : recordedMove T I (stateAt T I k) .going ≡ On → stateAt T I (suc k) .phase ≡ Output → stateAt T I (suc k) .scan ≡ stateAt T I k .scan + 1
-  unfolding stateAt
-  output-scan-at = output-scan T I (stateAt T I k .scan) (stateAt T I k)
+  pub output-scan-at : moveAt T I taking state k .going ≡ On → state (suc k) .phase ≡ Output → state (suc k) .scan ≡ state k .scan + 1
+  output-scan-at g o = rw (r .next k) (output-scan T I (taking (state k .scan)) (state k) g (rw (r .next k) at o))
