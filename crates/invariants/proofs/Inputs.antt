@@ -9,7 +9,7 @@ use Rattle.coding.specs.declared.Cause.{Cause}
 use Rattle.ranges.specs.Limits.{mostProcesses, mostVariables}
 use Rattle.requirement.specs.declared.Phase.{Phase}
 use Rattle.requirement.specs.declared.Phase.the-variants.{Input, Exe, Output}
-use Rattle.lookups.specs.Places.{inputsOf, outputsOf, scansOf, returnOf}
+use Rattle.lookups.specs.Places.{inputsOf, outputsOf}
 use Rattle.lookups.specs.Structure.{Table, numbersOf}
 use Rattle.lookups.proofs.Structured.{joined}
 use Rattle.structure.specs.Allowed.{Allowed}
@@ -18,16 +18,15 @@ use Rattle.controller.specs.declared.Controller.{Controller}
 use Rattle.scan.specs.Scanning.{readOf, writeOf}
 use Rattle.run.specs.Moves.{moveOf}
 use Rattle.run.specs.declared.Machine.{Machine}
-use Rattle.endless.specs.Recorded.{stateAt}
-use Rattle.endless.specs.Unrolled.{recordedScan, endlessState}
 use Rattle.endless.proofs.Phases.{Fit, Fits}
 use Rattle.invariants.specs.Allows.{StateAllowed}
-use Rattle.invariants.specs.Reading.{Holding, lastRead, InputsSet}
+use Rattle.invariants.specs.Runs.{RunOf}
+use Rattle.invariants.specs.Reading.{Holding, lastRead}
 use Rattle.invariants.proofs.Sound.{sound}
 use Rattle.invariants.specs.Refusals.{Acts, Forbids, long-turn, no-rule}
-use Rattle.invariants.proofs.Phased.{fits-always, fits-endless}
+use Rattle.invariants.proofs.Phased.{fits-always}
 use Rattle.invariants.proofs.MoveKinds.{stepIn, by-kind}
-use Rattle.invariants.proofs.Reached.{run-allowed, endless-allowed}
+use Rattle.invariants.proofs.Reached.{run-allowed}
 use Rattle.invariants.proofs.Values.{Kept, unchanged, taken-size, taken-there, written-kept, step-inputs}
 
 -- Where a process or the write is next, the last read was that of the scan under way.
@@ -101,57 +100,27 @@ module _ (t : Table) (ok : Allowed mostProcesses t) (I : List ℕ) (scanRead : �
       acting (long-turn a _) = a .0
       acting (no-rule a _ _) = a .0
 
-module _ (t : Table) (ok : Allowed mostProcesses t) (I : List ℕ) where
-  -- ---- the recorded run
+module _ (t : Table) (ok : Allowed mostProcesses t) {I : List ℕ} {taking : ℕ → ℕ} {state : ℕ → Machine} (r : RunOf (numbersOf t) I taking state) where
   start-room : t .inputs ≤ length (start mostProcesses .variables)
   unfolding start
   start-room = let few = ok .total in let e = length-replicate {A = ℕ} mostVariables none in omega arith
 
-  room-at : (j : ℕ) → Room t ok I (λ s. s) (stateAt (numbersOf t) I j)
-  unfolding stateAt
-  room-at zero = start-room
-  room-at (suc j) = room-next t ok I (λ s. s) (stateAt (numbersOf t) I j) (run-allowed t ok I j) (room-at j)
+  room-at : (j : ℕ) → Room t ok I taking (state j)
+  room-at zero = rw (r .first) start-room
+  room-at (suc j) = rw (r .next j) (room-next t ok I taking (state j) (run-allowed t ok r j) (room-at j))
 
-  held-next-at : (j : ℕ) → (0 < stateAt (numbersOf t) I j .state .counter → Held t ok I (λ s. s) (stateAt (numbersOf t) I j)) → Held t ok I (λ s. s) (stateAt (numbersOf t) I (suc j))
-  unfolding stateAt
-  held-next-at j = held-next t ok I (λ s. s) (stateAt (numbersOf t) I j) (fits-always (numbersOf t) I j) (run-allowed t ok I j) (room-at j)
+  held-from : (j : ℕ) → (0 < state j .state .counter → Held t ok I taking (state j)) → Held t ok I taking (state (suc j))
+  held-from j before = rw (r .next j) (held-next t ok I taking (state j) (fits-always r j) (run-allowed t ok r j) (room-at j) before)
 
-  begins-reading : stateAt (numbersOf t) I 0 .state .counter ≡ 0
-  unfolding stateAt start
-  begins-reading = refl
+  reading-first : state 0 .state .counter ≡ 0
+  unfolding start
+  reading-first = rw (r .first) refl
 
-  held-at : (j : ℕ) → Held t ok I (λ s. s) (stateAt (numbersOf t) I (suc j))
-  held-at zero = held-next-at 0 (λ h. absurd (omega (arith, begins-reading)))
-  held-at (suc j) = held-next-at (suc j) (λ h. held-at j)
+  held-at : (j : ℕ) → Held t ok I taking (state (suc j))
+  held-at zero = held-from 0 (λ h. absurd (omega (arith, reading-first)))
+  held-at (suc j) = held-from (suc j) (λ h. held-at j)
 
   -- State 1 is the one after the first read: from there on the input variables have what is recorded for the scan that was read last.
-  pub inputs-held : (j : ℕ) → 1 ≤ j → let m = stateAt (numbersOf t) I j in Holding (numbersOf t) I (lastRead (m .phase) (m .scan)) (m .state .variables)
+  pub inputs-held : (j : ℕ) → 1 ≤ j → Holding (numbersOf t) I (taking (lastRead (state j .phase) (state j .scan))) (state j .state .variables)
   inputs-held zero h = absurd (omega arith)
   inputs-held (suc j) h = held-at j
-
-  -- ---- the endless run
-  abbrev again : ℕ → ℕ
-  again = recordedScan (scansOf I) (returnOf I)
-
-  room-then : (n : ℕ) → Room t ok I (recordedScan (scansOf I) (returnOf I)) (endlessState (numbersOf t) I n)
-  unfolding endlessState
-  room-then zero = start-room
-  room-then (suc n) = room-next t ok I again (endlessState (numbersOf t) I n) (endless-allowed t ok I n) (room-then n)
-
-  held-next-then : (n : ℕ) → (0 < endlessState (numbersOf t) I n .state .counter → Held t ok I (recordedScan (scansOf I) (returnOf I)) (endlessState (numbersOf t) I n)) →
-      Held t ok I (recordedScan (scansOf I) (returnOf I)) (endlessState (numbersOf t) I (suc n))
-  unfolding endlessState
-  held-next-then n = held-next t ok I again (endlessState (numbersOf t) I n) (fits-endless (numbersOf t) I n) (endless-allowed t ok I n) (room-then n)
-
-  endless-begins : endlessState (numbersOf t) I 0 .state .counter ≡ 0
-  unfolding endlessState start
-  endless-begins = refl
-
-  held-then : (n : ℕ) → Held t ok I (recordedScan (scansOf I) (returnOf I)) (endlessState (numbersOf t) I (suc n))
-  held-then zero = held-next-then 0 (λ h. absurd (omega (arith, endless-begins)))
-  held-then (suc n) = held-next-then (suc n) (λ h. held-then n)
-
-  pub endless-held : (n : ℕ) → 1 ≤ n → let m = endlessState (numbersOf t) I n in
-      Holding (numbersOf t) I (recordedScan (scansOf I) (returnOf I) (lastRead (m .phase) (m .scan))) (m .state .variables)
-  endless-held zero h = absurd (omega arith)
-  endless-held (suc n) h = held-then n

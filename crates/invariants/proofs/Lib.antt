@@ -3,6 +3,7 @@ pub mod Stepping
 pub mod Sound
 pub mod Planning
 pub mod Kept
+pub mod Running
 pub mod Reached
 pub mod MoveKinds
 pub mod Going
@@ -12,3 +13,7 @@ pub mod Values
 pub mod Phased
 pub mod Inputs
 pub mod Unset
+pub mod NextState
+pub mod Turned
+pub mod Once
+pub mod EachScan

@@ -11,7 +11,6 @@ use Rattle.ranges.specs.Limits.{mostProcesses}
 use Rattle.table.specs.Table.{tableGrammar}
 use Rattle.structure.specs.Allowed.{OneOf, Allowed}
 use Rattle.structure.proofs.Whole.{accepted-is-allowed}
-use Rattle.lookups.specs.Places.{scansOf, returnOf}
 use Rattle.lookups.specs.Structure.{Table, numbersOf}
 use Rattle.lookups.proofs.Structured.{joined}
 use Rattle.controller.specs.State.{start, entering, stopped, recordAt}
@@ -19,9 +18,8 @@ use Rattle.controller.specs.declared.Process.{Process}
 use Rattle.controller.specs.declared.Controller.{Controller}
 use Rattle.run.specs.Moves.{begun, stepOf, moveOf}
 use Rattle.run.specs.declared.Machine.{Machine}
-use Rattle.endless.specs.Recorded.{stateAt}
-use Rattle.endless.specs.Unrolled.{recordedScan, endlessState}
 use Rattle.invariants.specs.Allows.{RecordAllowed, StateAllowed}
+use Rattle.invariants.specs.Runs.{RunOf}
 use Rattle.invariants.specs.Leading.{Leads, there, move}
 use Rattle.invariants.specs.Staying.{Inside, Stays}
 use Rattle.invariants.proofs.Sound.{Sound, sound}
@@ -67,29 +65,16 @@ module _ (t : Table) (h : Allowed mostProcesses t) where
   abbrev first : StateAllowed t (start mostProcesses)
   first = let s = sound mostProcesses t h in start-allowed mostProcesses t s (h .process-count)
 
-  -- State j of the run over whatever was recorded: if its moves up to there go on, that is the state that arises; and if not, the one at which it was stopped.
-  pub run-allowed : (I : List ℕ) (j : ℕ) → StateAllowed t (stateAt (numbersOf t) I j .state)
-  unfolding stateAt
-  run-allowed I zero = first
-  run-allowed I (suc j) = move-allowed t (sound mostProcesses t h) I (stateAt (numbersOf t) I j .scan) (stateAt (numbersOf t) I j) (run-allowed I j)
+  -- However many moves were made since the start, whichever inputs were read. A move that is stopped leaves the state as it is, so that nothing is asked of the moves.
+  pub run-allowed : {I : List ℕ} {taking : ℕ → ℕ} {state : ℕ → Machine} → RunOf (numbersOf t) I taking state → (j : ℕ) → StateAllowed t (state j .state)
+  run-allowed r zero = rw (r .first) first
+  run-allowed {I} {taking} {state} r (suc j) = rw (r .next j) (move-allowed t (sound mostProcesses t h) I (taking (state j .scan)) (state j) (run-allowed r j))
 
-  -- State n of the endless run.
-  pub endless-allowed : (I : List ℕ) (n : ℕ) → StateAllowed t (endlessState (numbersOf t) I n .state)
-  unfolding endlessState
-  endless-allowed I zero = first
-  endless-allowed I (suc n) =
-      let m = endlessState (numbersOf t) I n in
-      move-allowed t (sound mostProcesses t h) I (recordedScan (scansOf I) (returnOf I) (m .scan)) m (endless-allowed I n)
-
-  -- However many moves were made since the start.
   pub led-allowed : {I : List ℕ} {n : ℕ} {m : Machine} → Leads (numbersOf t) I n (begun mostProcesses) m → StateAllowed t (m .state)
   led-allowed p = leads-allowed t (sound mostProcesses t h) p first
 
   pub run-stays : Stays t (numbersOf t)
-  run-stays = let s = sound mostProcesses t h in record {
-    recorded = λ I j. inside t s (stateAt (numbersOf t) I j) (run-allowed I j);
-    unrolled = λ I n. inside t s (endlessState (numbersOf t) I n) (endless-allowed I n);
-  }
+  run-stays I taking state r j = inside t (sound mostProcesses t h) (state j) (run-allowed r j)
 
 -- So in every run of numbers that the reader accepts: they are those of an allowed table, and the run stays in it.
 pub accepted-run-allowed : (c : Code) (n : ℕ) → tableGrammar mostProcesses c ≡ Count n → (t : Table) × (values c ≡ numbersOf t) × Allowed mostProcesses t × Stays t (values c)

@@ -19,13 +19,14 @@ use Rattle.run.specs.Trace.{numbersIn, runOf}
 use Rattle.run.specs.declared.Ran.the-variants.{Closed}
 use Rattle.run.specs.declared.Machine.{Machine}
 use Rattle.endless.specs.Recorded.{stateAt}
-use Rattle.endless.specs.Unrolled.{endlessState}
 use Rattle.endless.proofs.Ended.{Ended, ended}
 use Rattle.endless.proofs.Along.{start-below}
 use Rattle.invariants.specs.Accepting.{Accepted, Bytes}
+use Rattle.invariants.specs.Runs.{RunOf}
 use Rattle.invariants.specs.Reading.{Holding, InputsSet}
+use Rattle.invariants.proofs.Running.{recorded}
 use Rattle.invariants.proofs.Answered.{run-exactly}
-use Rattle.invariants.proofs.Inputs.{inputs-held, endless-held}
+use Rattle.invariants.proofs.Inputs.{inputs-held}
 
 -- ---- "A number is 0 to 65,535": what bytes code
 small-from : (f p : ℕ) (s : List ℕ) → Bytes s → (i : ℕ) → getD (values (codeFrom f p s)) i 0 < none
@@ -48,17 +49,12 @@ holding-set : {T I v : List ℕ} {d : ℕ} → ((i : ℕ) → getD I i 0 < none)
 unfolding readingOf
 holding-set {T} {I} {v} {d} small h k b = rw (h .values k b) (small _)
 
--- ---- every state after the first read
-module _ (room : ℕ) (table inputs : List ℕ) (ok : Accepted room table inputs) (bytes : Bytes inputs) where
-  pub never-unset : (j : ℕ) → 1 ≤ j → InputsSet (numbersIn table) (stateAt (numbersIn table) (numbersIn inputs) j .state .variables)
-  never-unset j h =
-      let (t, same, allowed, _, _) = accepted-is-allowed mostProcesses (omega arith) (codeAt table 0) (ok .table-numbers) (ok .table-read) in
-      rw same (holding-set (numbers-small inputs bytes) (inputs-held t allowed (numbersIn inputs) j h))
-
-  pub never-unset-endless : (n : ℕ) → 1 ≤ n → InputsSet (numbersIn table) (endlessState (numbersIn table) (numbersIn inputs) n .state .variables)
-  never-unset-endless n h =
-      let (t, same, allowed, _, _) = accepted-is-allowed mostProcesses (omega arith) (codeAt table 0) (ok .table-numbers) (ok .table-read) in
-      rw same (holding-set (numbers-small inputs bytes) (endless-held t allowed (numbersIn inputs) n h))
+-- In every state after the first read, of the recorded run and of the endless run alike.
+pub never-unset : (room : ℕ) (table inputs : List ℕ) → Accepted room table inputs → Bytes inputs → {taking : ℕ → ℕ} {state : ℕ → Machine} → RunOf (numbersIn table) (numbersIn inputs) taking state →
+    (j : ℕ) → 1 ≤ j → InputsSet (numbersIn table) (state j .state .variables)
+never-unset room table inputs ok bytes r j h =
+    let (t, same, allowed, _, _) = accepted-is-allowed mostProcesses (omega arith) (codeAt table 0) (ok .table-numbers) (ok .table-read) in
+    rw same (holding-set (numbers-small inputs bytes) (inputs-held t allowed (rw same at r) j h))
 
 -- ---- "b = 0: the start"
 -- "A variable starts unset."
@@ -82,6 +78,6 @@ never-from-start room table inputs bytes some back n start e =
     let h = ended room n start table inputs e in
     let zero = at-start h back in
     let ok = run-exactly room table inputs (Closed n start) tt .0 e .0 in
-    let set : valueAt (stateAt T I n .state .variables) 0 < none = never-unset room table inputs ok bytes n (omega (arith, start-below h)) 0 some in
+    let set : valueAt (stateAt T I n .state .variables) 0 < none = never-unset room table inputs ok bytes (recorded T I) n (omega (arith, start-below h)) 0 some in
     let same : stateAt T I n .state ≡ stateAt T I 0 .state = rw zero at (h .same) in
     omega (arith, set, ap (λ (c : Controller). valueAt (c .variables) 0) same, starts-unset T I)

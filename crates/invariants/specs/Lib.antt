@@ -1,8 +1,10 @@
 pub mod Text
 pub mod Allows
 pub mod Due
+pub mod Runs
 pub mod Leading
 pub mod Staying
 pub mod Refusals
 pub mod Accepting
 pub mod Reading
+pub mod Turns

@@ -7,10 +7,9 @@ use Rattle.lookups.specs.Structure.{Table}
 use Rattle.structure.specs.Allowed.{OneOf}
 use Rattle.run.specs.Moves.{stepOf}
 use Rattle.run.specs.declared.Machine.{Machine}
-use Rattle.endless.specs.Recorded.{stateAt}
-use Rattle.endless.specs.Unrolled.{endlessState}
 use Rattle.invariants.specs.Allows.{StateAllowed}
 use Rattle.invariants.specs.Due.{Due}
+use Rattle.invariants.specs.Runs.{RunOf}
 
 -- A machine of the numbers T: its state is allowed, and where the counter names a process, so that its action is the next move, that is skip, the end, or an action
 -- that the table has.
@@ -18,7 +17,6 @@ pub record Inside (t : Table) (T : List ℕ) (m : Machine) : Type 0 where
   pub allowed : StateAllowed t (m .state)
   pub due : OneOf (m .state .counter) (length (t .processes)) → Due t (m .state .counter) (m .state) (stepOf T (m .state .counter) (m .state))
 
--- Every state of the run over any recorded inputs, and of the endless run when these repeat.
-pub record Stays (t : Table) (T : List ℕ) : Type 0 where
-  pub recorded : (I : List ℕ) (j : ℕ) → Inside t T (stateAt T I j)
-  pub unrolled : (I : List ℕ) (n : ℕ) → Inside t T (endlessState T I n)
+-- Every state of every run of the numbers T.
+abbrev pub Stays : Table → List ℕ → Type 0
+Stays t T = (I : List ℕ) (taking : ℕ → ℕ) (state : ℕ → Machine) → RunOf T I taking state → (j : ℕ) → Inside t T (state j)
