@@ -1,11 +1,9 @@
 -- Each scan of a run whose states arise is a scan as it should be: from the state after scan k to the state after scan k + 1.
 -- Assumes nothing.
-use Prim.Native.Nat.{ℕ, zero, suc, _+_, _-_, _<_, _≤_}
+use Prim.Native.Nat.{ℕ, zero, suc, _+_, _<_, _≤_}
 use native.Mathlib.Omega.{arith}
-use native.Mathlib.Nat.{eq-or-lt-of-le}
 use native.Mathlib.Decide.{decLt}
 use mathlib.Core.Path.{_≡_, refl, ap, _∙_}
-use mathlib.Core.Logic.{⊎-elim}
 use mathlib.Core.List.{List}
 use lib.ListN.{length}
 use Rattle.coding.specs.Code.{Code, codeAt, values}
@@ -26,7 +24,7 @@ use Rattle.run.specs.declared.Going.the-variants.{On, Stopped}
 use Rattle.endless.specs.Recorded.{stateAt, MovesOn}
 use Rattle.endless.specs.Unrolled.{endlessState}
 use Rattle.endless.proofs.Closed.{goes-on}
-use Rattle.invariants.specs.Refusals.{Forbids, Stops, action, Arises, AfterScan}
+use Rattle.invariants.specs.Refusals.{Stops, action, Arises, AfterScan}
 use Rattle.invariants.specs.Turns.{ScanOf, Scanned}
 use Rattle.invariants.proofs.Running.{recorded, unrolled}
 use Rattle.invariants.proofs.Going.{Says, says, scan-most, scans-rise}

@@ -17,7 +17,6 @@ use Rattle.controller.specs.declared.Outcome.the-variants.{Stays, Passes, NoRul
 use Rattle.scan.specs.Scanning.{readOf, writeOf}
 use Rattle.run.specs.Limits.{longestTurn}
 use Rattle.run.specs.Moves.{to, stops, stepOf, tooLong, unruled, before, unless, afterAction, actionMove, afterRead, afterWrite, moveOf}
-use Rattle.run.specs.declared.Going.{Going}
 use Rattle.run.specs.declared.Going.the-variants.{On, Stopped}
 use Rattle.run.specs.declared.Machine.{Machine}
 use Rattle.run.specs.declared.Moved.{Moved}

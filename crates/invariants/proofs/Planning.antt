@@ -1,17 +1,15 @@
 -- What a process with an allowed record plans, told by the table; and that look-ups in the table's numbers plan the same.
 -- Assumes nothing.
-use Prim.Native.Nat.{ℕ, _-_, _≤_, _<_}
-use mathlib.Core.Path.{_≡_, refl, sym, ap, _∙_}
+use Prim.Native.Nat.{ℕ, _-_, _≤_}
+use mathlib.Core.Path.{_≡_, refl, sym, _∙_}
 use mathlib.Core.Bool.{Bool, true, false}
 use mathlib.Core.List.{List}
 use native.Mathlib.Omega.{arith}
 use lib.ListN.{length}
 use lib.Dec.{eqb}
 use borrow.Author.Tests.{eqb-true, eqb-false}
-use Rattle.ranges.specs.Values.{pick}
 use Rattle.lookups.specs.Places.{testOf, actionOf as rowOf}
 use Rattle.lookups.specs.Structure.{Table, numbersOf}
-use Rattle.lookups.specs.declared.TestRow.{TestRow}
 use Rattle.lookups.specs.declared.ActionRow.{ActionRow}
 use Rattle.lookups.proofs.Structured.{joined}
 use Rattle.structure.specs.Allowed.{OneOf}
@@ -19,13 +17,12 @@ use Rattle.controller.specs.State.{bodyEnd, recordAt}
 use Rattle.controller.specs.Rules.{actOf}
 use Rattle.controller.specs.declared.Process.{Process}
 use Rattle.controller.specs.declared.Controller.{Controller}
-use Rattle.controller.specs.declared.Acted.{Acted}
 use Rattle.controller.specs.declared.Action.the-variants.{Skip, End}
 use Rattle.run.specs.Moves.{active, stepOf}
 use Rattle.invariants.specs.Text.{statesFor, actionsFor, rowFor, testFor, There}
 use Rattle.invariants.specs.Allows.{RecordAllowed, StateAllowed, RecordAllowed.stopped as is-stopped, RecordAllowed.failed, RecordAllowed.active as is-active}
 use Rattle.invariants.specs.Due.{guardBy, nextBy, codedBy, Due, skips, ends, acts}
-use Rattle.invariants.proofs.Stepping.{Plan, inNumbers, inTable, planOf, planBy, stepBy, step-in-numbers}
+use Rattle.invariants.proofs.Stepping.{Plan, inTable, planOf, planBy, stepBy, step-in-numbers}
 use Rattle.invariants.proofs.Sound.{Sound}
 
 pub never : true ≡ false → ⊥

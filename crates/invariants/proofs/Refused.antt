@@ -4,8 +4,8 @@ use Prim.Native.Nat.{ℕ, zero, suc, _+_, _-_, _<_, _≤_}
 use native.Mathlib.Omega.{arith}
 use native.Mathlib.Nat.{eq-or-lt-of-le}
 use native.Mathlib.Decide.{decLt}
-use mathlib.Core.Path.{_≡_, refl, sym, ap, _∙_}
-use mathlib.Core.Logic.{_↔_, _⊎_, inl, inr, ⊎-elim}
+use mathlib.Core.Path.{_≡_, refl}
+use mathlib.Core.Logic.{_↔_, ⊎-elim}
 use mathlib.Core.Bool.{Bool, true, false}
 use mathlib.Core.List.{List}
 use lib.Dec.{ltb}
@@ -17,10 +17,9 @@ use Rattle.lookups.specs.Places.{scansOf, returnOf}
 use Rattle.controller.specs.Same.{sameState}
 use Rattle.controller.proofs.Equal.{same-is-equal, equal-is-same}
 use Rattle.run.specs.Limits.{lastState}
-use Rattle.run.specs.Running.{recordedMove, here, stoppedAt, reached, toReturn, toEnd, turnOf, halted, closing, ranOf}
+use Rattle.run.specs.Running.{recordedMove, stoppedAt, reached, toReturn, toEnd, turnOf, halted, closing, ranOf}
 use Rattle.run.specs.declared.Going.{Going}
 use Rattle.run.specs.declared.Going.the-variants.{On, Stopped}
-use Rattle.run.specs.declared.Machine.{Machine}
 use Rattle.run.specs.declared.Reached.{Reached}
 use Rattle.run.specs.declared.Ran.{Ran}
 use Rattle.run.specs.declared.Ran.the-variants.{Closed, Halted}
@@ -28,7 +27,7 @@ use Rattle.endless.specs.Recorded.{stateAt, MovesOn}
 use Rattle.endless.proofs.States.{Arrived, Came, is-here, is-stopped, no-room, goes-on, on-or-stopped}
 use Rattle.endless.proofs.Ended.{came-back, came-end}
 use Rattle.invariants.specs.Refusals.{Forbids, Stops, action, long-run, Arises, AfterScan, Ends, stopped, differs, closes}
-use Rattle.invariants.proofs.Going.{Says, says, forbidden-stops, one-cause, scan-most, scans-rise}
+use Rattle.invariants.proofs.Going.{says, forbidden-stops, one-cause, scan-most, scans-rise}
 
 -- ---- what is known where a run was stopped on its way to k scans, from state n on
 record StoppedAt (T I : List ℕ) (k n : ℕ) (cause : Cause) (r : Reached) : Type 0 where

@@ -4,7 +4,7 @@ use Prim.Native.Nat.{ℕ, zero, suc, _+_, _-_, _<_, _≤_}
 use native.Mathlib.Omega.{arith}
 use native.Mathlib.Nat.{eq-or-lt-of-le}
 use native.Mathlib.Decide.{decLt}
-use mathlib.Core.Path.{_≡_, refl, sym, _∙_}
+use mathlib.Core.Path.{_≡_, refl, _∙_}
 use mathlib.Core.Logic.{⊎-elim}
 use mathlib.Core.List.{List}
 use Rattle.requirement.specs.declared.Phase.{Phase}
@@ -17,7 +17,7 @@ use Rattle.run.specs.declared.Going.the-variants.{On}
 use Rattle.run.specs.declared.Machine.{Machine}
 use Rattle.endless.proofs.Phases.{Fit}
 use Rattle.invariants.specs.Runs.{RunOf, moveAt}
-use Rattle.invariants.specs.Turns.{turnAt, outcomeAt, Turn, Turns, none-left, turn, Reads, Writes, WithinScan, ScanOf}
+use Rattle.invariants.specs.Turns.{turnAt, outcomeAt, Turn, Turns, none-left, turn, WithinScan, ScanOf}
 use Rattle.invariants.proofs.Phased.{fits-always}
 use Rattle.invariants.proofs.NextState.{exe-or-output, input-or-output, Stayed, Passed, acted-at, read-at, written-at, same-scan-at}
 

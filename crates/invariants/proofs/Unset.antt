@@ -3,9 +3,9 @@
 use Prim.Native.Nat.{ℕ, zero, suc, _+_, _<_, _≤_}
 use native.Mathlib.Omega.{arith}
 use native.Mathlib.Decide.{decLt}
-use mathlib.Core.Path.{_≡_, refl, sym, ap, _∙_}
+use mathlib.Core.Path.{_≡_, refl, ap}
 use mathlib.Core.List.{List, [], _∷_}
-use lib.ListN.{length, drop, getD, replicate}
+use lib.ListN.{length, drop, getD}
 use lib.Seq.{getD-drop}
 use Rattle.coding.specs.Number.{Begin, number, none as no-number, first}
 use Rattle.coding.specs.Code.{itemOr, codeFrom, codeAt, values}
