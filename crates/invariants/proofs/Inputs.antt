@@ -1,4 +1,5 @@
--- Inputs are never unset once read: they have what was recorded for the scan that was read last. So a run with an input variable never comes back to the start.
+-- Inputs are never unset once read: they have what was recorded for the scan that was read last. So a run with an input
+-- variable never comes back to the start.
 -- Assumes nothing.
 use Prim.Native.Nat.{ℕ, zero, suc, _+_, _-_, _<_, _≤_}
 use native.Mathlib.Omega.{arith}
@@ -39,7 +40,8 @@ module _ (t : Table) (ok : Allowed mostProcesses t) (I : List ℕ) (scanRead : �
   abbrev T : List ℕ
   T = numbersOf t
 
-  -- Room for the input variables, and what they have: scanRead tells which recorded scan is read where so many are done.
+  -- Room for the input variables, and what they have: scanRead tells which recorded scan is read where so many are
+  -- done.
   abbrev Room : Machine → Type 0
   Room m = t .inputs ≤ length (m .state .variables)
 
@@ -56,7 +58,8 @@ module _ (t : Table) (ok : Allowed mostProcesses t) (I : List ℕ) (scanRead : �
   unfolding writeOf
   written-same c = rw (joined t .inputs) at (written-kept T (outputsOf T) 0 (c .variables))
 
-  step-same : (m : Machine) → StateAllowed t (m .state) → Acts T m → Kept (t .inputs) (m .state .variables) (stepIn T m .state .variables)
+  step-same : (m : Machine) → StateAllowed t (m .state) → Acts T m →
+      Kept (t .inputs) (m .state .variables) (stepIn T m .state .variables)
   step-same m h a =
       let all = joined t .processes in
       step-inputs t (sound mostProcesses t ok) (m .state .counter) (omega arith) (m .state) h
@@ -68,7 +71,8 @@ module _ (t : Table) (ok : Allowed mostProcesses t) (I : List ℕ) (scanRead : �
       record { values = λ k b. taken-there I (inputsOf T) d (inputsOf T) 0 k (c .variables) (omega arith) (omega arith) (omega arith) }
 
   -- Where the next move is no read, the inputs have been read.
-  held-next : (m : Machine) → Fits m → StateAllowed t (m .state) → Room m → (0 < m .state .counter → Held m) → Held (moved m)
+  held-next : (m : Machine) → Fits m → StateAllowed t (m .state) → Room m → (0 < m .state .counter → Held m) →
+      Held (moved m)
   held-next m f h r before =
       by-kind (λ x. Held (x .machine)) T I (scanRead (m .scan)) m
       (λ e. read-holds (scanRead (m .scan)) (m .state) r)
@@ -88,7 +92,8 @@ module _ (t : Table) (ok : Allowed mostProcesses t) {I : List ℕ} {taking : ℕ
   room-at : (j : ℕ) → Room t ok I taking (state j)
   room-at j = let few = ok .total in omega (arith, run-sized t ok r j)
 
-  held-from : (j : ℕ) → (0 < state j .state .counter → Held t ok I taking (state j)) → Held t ok I taking (state (suc j))
+  held-from : (j : ℕ) → (0 < state j .state .counter → Held t ok I taking (state j)) →
+      Held t ok I taking (state (suc j))
   held-from j before = rw (r .next j) (held-next t ok I taking (state j) (fits-always r j) (run-allowed t ok r j) (room-at j) before)
 
   reading-first : state 0 .state .counter ≡ 0
@@ -99,7 +104,9 @@ module _ (t : Table) (ok : Allowed mostProcesses t) {I : List ℕ} {taking : ℕ
   held-at zero = held-from 0 (λ h. absurd (omega (arith, reading-first)))
   held-at (suc j) = held-from (suc j) (λ h. held-at j)
 
-  -- State 1 is the one after the first read: from there on the input variables have what is recorded for the scan that was read last.
-  pub inputs-held : (j : ℕ) → 1 ≤ j → Holding (numbersOf t) I (taking (lastRead (state j .phase) (state j .scan))) (state j .state .variables)
+  -- State 1 is the one after the first read: from there on the input variables have what is recorded for the scan that
+  -- was read last.
+  pub inputs-held : (j : ℕ) → 1 ≤ j →
+      Holding (numbersOf t) I (taking (lastRead (state j .phase) (state j .scan))) (state j .state .variables)
   inputs-held zero h = absurd (omega arith)
   inputs-held (suc j) h = held-at j

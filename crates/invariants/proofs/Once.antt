@@ -47,7 +47,8 @@ module _ {T : List ℕ} {state : ℕ → Machine} where
       go i a b c (yes l) = omega (arith, at-last t i a l c)
       go i a b c (no l) = absurd (omega (arith, no-sooner ts i (omega arith) b, c .whose))
 
-  once-later : {p q from next to : ℕ} → q < p → Turn T state q from next → Once T state p next to → Once T state p from to
+  once-later : {p q from next to : ℕ} → q < p → Turn T state q from next → Once T state p next to →
+      Once T state p from to
   once-later {p} {q} {from} {next} {to} h t o =
       let some = t .some in
       let there = o .among in
@@ -66,5 +67,6 @@ module _ {T : List ℕ} {state : ℕ → Machine} where
       same e t ts = rw (← e) (once-first t ts)
 
   -- "Each process passes its turn exactly once a scan"
-  pub passes-once : {read write : ℕ} → ScanOf T state read write → (p : ℕ) → OneOf p (processesOf T) → Once T state p (suc read) write
+  pub passes-once : {read write : ℕ} → ScanOf T state read write → (p : ℕ) → OneOf p (processesOf T) →
+      Once T state p (suc read) write
   passes-once s p b = once-among (s .turns) (b .0) (b .1)

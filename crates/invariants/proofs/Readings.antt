@@ -1,5 +1,5 @@
--- "Inputs: scans q .., return scan b .., then one number per input variable per scan": an accepted record has just so many numbers, so that what is read in each
--- of its scans is one of them.
+-- "Inputs: scans q .., return scan b .., then one number per input variable per scan": an accepted record has just so
+-- many numbers, so that what is read in each of its scans is one of them.
 -- Assumes nothing.
 use Prim.Native.Nat.{ℕ, suc, _+_, _-_, _*_, _%_, _≤_, _<_}
 use native.Mathlib.Omega.{arith}
@@ -49,7 +49,8 @@ reading-just size (item p v c) left n some h =
     (λ e. let one = leb-true left 1 e in ended-just size (n + 1) c (omega arith))
     (λ e. let more = leb-false left 1 e in reading-just size c (left - 1) (n + 1) (omega arith) (omega arith))
 
-return-just : (size : ℕ) (c : Code) (inputs scans n : ℕ) → n + 1 + scans * inputs ≡ size → Just size (check 0 (Return inputs scans) n c)
+return-just : (size : ℕ) (c : Code) (inputs scans n : ℕ) → n + 1 + scans * inputs ≡ size →
+    Just size (check 0 (Return inputs scans) n c)
 unfolding check
 return-just size (end p) inputs scans n h = tt
 return-just size (broken cause p) inputs scans n h = tt
@@ -80,17 +81,20 @@ inputs-just : (inputs : ℕ) (c : Code) → Just (2 + scansOf (values c) * input
 unfolding inputsGrammar
 inputs-just inputs c = go (ltb mostVariables inputs)
   where
-    go : (t : Bool) → Just (2 + scansOf (values c) * inputs) (pick t (Refused NotAllowed 0) (check 0 (Scans inputs) 0 c))
+    go : (t : Bool) →
+        Just (2 + scansOf (values c) * inputs) (pick t (Refused NotAllowed 0) (check 0 (Scans inputs) 0 c))
     go true = tt
     go false = scans-just inputs c
 
-pub inputs-length : (inputs : ℕ) (c : Code) (n : ℕ) → inputsGrammar inputs c ≡ Count n → length (values c) ≡ 2 + scansOf (values c) * inputs
+pub inputs-length : (inputs : ℕ) (c : Code) (n : ℕ) → inputsGrammar inputs c ≡ Count n →
+    length (values c) ≡ 2 + scansOf (values c) * inputs
 inputs-length inputs c n e =
     let h : Just (2 + scansOf (values c) * inputs) (Count n) = rw e at (inputs-just inputs c) in
     sym (fair-inputs inputs .counts c n e) ∙ h
 
 -- So the place at which `readingOf` looks, in each of the scans, is one of the record.
-pub reading-there : (inputs : ℕ) (c : Code) (n : ℕ) → inputsGrammar inputs c ≡ Count n → (done k : ℕ) → done < scansOf (values c) → k < inputs →
+pub reading-there : (inputs : ℕ) (c : Code) (n : ℕ) → inputsGrammar inputs c ≡ Count n → (done k : ℕ) →
+    done < scansOf (values c) → k < inputs →
     2 + inputs * done + k < length (values c)
 reading-there inputs c n e done k h l =
     let size = inputs-length inputs c n e in
