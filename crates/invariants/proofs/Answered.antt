@@ -5,11 +5,9 @@ use mathlib.Core.Path.{_≡_, refl, sym, _∙_}
 use mathlib.Core.Logic.{_↔_}
 use mathlib.Core.Bool.{Bool, true, false}
 use mathlib.Core.List.{List}
-use native.Mathlib.Omega.{arith}
 use lib.Dec.{ltb}
 use borrow.Author.Tests.{ltb-false, le-ltb}
 use Rattle.coding.specs.Code.{codeAt}
-use Rattle.coding.specs.declared.Cause.{Cause}
 use Rattle.coding.specs.declared.Answer.{Answer}
 use Rattle.coding.specs.declared.Answer.the-variants.{Count, Refused as NotRead}
 use Rattle.ranges.specs.Limits.{mostProcesses}
@@ -49,8 +47,10 @@ module _ (room : ℕ) (table inputs : List ℕ) where
       go false e = by-table e (tableGrammar mostProcesses (codeAt table 0)) refl (rw e at h)
 
   -- The scans of a run are begun just where all before is accepted, and then it answers what its states say.
-  pub run-exactly : (r : Ran) → Begun r → (runOf room table inputs ≡ r) ↔ (Accepted room table inputs × Ends (numbersIn table) (numbersIn inputs) r)
+  pub run-exactly : (r : Ran) → Begun r →
+      (runOf room table inputs ≡ r) ↔ (Accepted room table inputs × Ends (numbersIn table) (numbersIn inputs) r)
   run-exactly r b = (λ e. let a = begun-accepted (rw e b) in (a, exactly a .0 (sym (accepted-runs a) ∙ e)), λ (a, h). accepted-runs a ∙ exactly a .1 h)
     where
-      exactly : Accepted room table inputs → (ranOf (numbersIn table) (numbersIn inputs) ≡ r) ↔ Ends (numbersIn table) (numbersIn inputs) r
+      exactly : Accepted room table inputs →
+          (ranOf (numbersIn table) (numbersIn inputs) ≡ r) ↔ Ends (numbersIn table) (numbersIn inputs) r
       exactly a = ran-exactly (numbersIn table) (numbersIn inputs) (returns-below (inputsOf (numbersIn table)) (a .inputs-numbers) (codeAt inputs 0) (a .inputs-read)) r

@@ -1,11 +1,10 @@
--- Each scan of a run whose states arise is a scan as it should be: from the state after scan k to the state after scan k + 1.
+-- Each scan of a run whose states arise is a scan as it should be: from the state after scan k to the state after scan
+-- k + 1.
 -- Assumes nothing.
-use Prim.Native.Nat.{ℕ, zero, suc, _+_, _-_, _<_, _≤_}
+use Prim.Native.Nat.{ℕ, zero, suc, _+_, _<_, _≤_}
 use native.Mathlib.Omega.{arith}
-use native.Mathlib.Nat.{eq-or-lt-of-le}
 use native.Mathlib.Decide.{decLt}
 use mathlib.Core.Path.{_≡_, refl, ap, _∙_}
-use mathlib.Core.Logic.{⊎-elim}
 use mathlib.Core.List.{List}
 use lib.ListN.{length}
 use Rattle.coding.specs.Code.{Code, codeAt, values}
@@ -26,7 +25,7 @@ use Rattle.run.specs.declared.Going.the-variants.{On, Stopped}
 use Rattle.endless.specs.Recorded.{stateAt, MovesOn}
 use Rattle.endless.specs.Unrolled.{endlessState}
 use Rattle.endless.proofs.Closed.{goes-on}
-use Rattle.invariants.specs.Refusals.{Forbids, Stops, action, Arises, AfterScan}
+use Rattle.invariants.specs.Refusals.{Stops, action, Arises, AfterScan}
 use Rattle.invariants.specs.Turns.{ScanOf, Scanned}
 use Rattle.invariants.proofs.Running.{recorded, unrolled}
 use Rattle.invariants.proofs.Going.{Says, says, scan-most, scans-rise}
@@ -51,7 +50,8 @@ module _ (T I : List ℕ) where
   moves-on l a j _ b = goes-unless j (recordedMove T I (stateAt T I j) .going) (says T (stateAt T I j) I (stateAt T I j .scan)) (a j b)
 
   -- A scan is done at an Output.
-  output-where : (j : ℕ) (p : Phase) → stateAt T I (suc j) .phase ≡ p → stateAt T I j .scan < stateAt T I (suc j) .scan → p ≡ Output
+  output-where : (j : ℕ) (p : Phase) → stateAt T I (suc j) .phase ≡ p →
+      stateAt T I j .scan < stateAt T I (suc j) .scan → p ≡ Output
   output-where j Output e h = refl
   output-where j Input e h = absurd (omega (arith, same-scan-at (recorded T I) j (input-or-output e)))
   output-where j Exe e h = absurd (omega (arith, same-scan-at (recorded T I) j (exe-or-output e)))
@@ -62,7 +62,8 @@ module _ (T I : List ℕ) where
   output-after k (suc j) a = output-where j (stateAt T I (suc j) .phase) refl (omega (arith, a .sooner j (omega arith), a .done))
 
   -- Between the states after two scans in a row there is no other Output.
-  none-between : (k l e : ℕ) → AfterScan T I k l → AfterScan T I (k + 1) e → (j : ℕ) → l < j → j < e → ¬ (stateAt T I j .phase ≡ Output)
+  none-between : (k l e : ℕ) → AfterScan T I k l → AfterScan T I (k + 1) e → (j : ℕ) → l < j → j < e →
+      ¬ (stateAt T I j .phase ≡ Output)
   none-between k l e a b zero h i o = omega arith
   none-between k l e a b (suc j) h i o =
       omega (arith, output-scan-at (recorded T I) j (moves-on e (b .arises) j (omega arith) (omega arith)) o, scans-rise T I l j (omega arith), a .done, b .sooner (suc j) i)
@@ -110,14 +111,16 @@ module _ (T I : List ℕ) where
         next-scan k i j b c
 
 -- So in every run of a table that the reader accepts, up to whatever scan is done.
-counted : (c : Code) (n : ℕ) → tableGrammar mostProcesses c ≡ Count n → (1 ≤ processesOf (values c)) × (processesOf (values c) < 65535)
+counted : (c : Code) (n : ℕ) → tableGrammar mostProcesses c ≡ Count n →
+    (1 ≤ processesOf (values c)) × (processesOf (values c) < 65535)
 counted c n e =
     let (t, same, ok, _, _) = accepted-is-allowed mostProcesses (omega arith) c n e in
     let count : processesOf (values c) ≡ length (t .processes) = ap processesOf same ∙ joined t .processes in
     let within = ok .process-count in
     (omega arith, omega arith)
 
-pub accepted-scans : (c : Code) (n : ℕ) → tableGrammar mostProcesses c ≡ Count n → (I : List ℕ) (q l : ℕ) → AfterScan (values c) I q l → (k : ℕ) → k < q → Scanned (values c) I k
+pub accepted-scans : (c : Code) (n : ℕ) → tableGrammar mostProcesses c ≡ Count n → (I : List ℕ) (q l : ℕ) →
+    AfterScan (values c) I q l → (k : ℕ) → k < q → Scanned (values c) I k
 accepted-scans c n e I q l a = let (some, few) = counted c n e in each-scan (values c) I some few q l a
 
 -- And in the endless run of a run that closes, from every state that is the start or just after a write.

@@ -65,7 +65,8 @@ grows T I d m =
     by-kind (λ x. Grows (m .scan) x) T I d m (λ e. same) (λ e f. record { least = omega arith; most = omega arith }) (λ a l e. same) (λ a l e. same)
     (λ cause f. record { least = omega arith; most = omega arith })
   where
-    same : {p : Phase} {c : Controller} {u : ℕ} → Grows (m .scan) (to (record { phase = p; state = c; used = u; scan = m .scan }))
+    same : {p : Phase} {c : Controller} {u : ℕ} →
+        Grows (m .scan) (to (record { phase = p; state = c; used = u; scan = m .scan }))
     same = record { least = omega arith; most = omega arith }
 
 module _ (T I : List ℕ) where

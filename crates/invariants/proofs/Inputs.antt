@@ -1,19 +1,20 @@
--- Inputs are never unset once read: they have what was recorded for the scan that was read last. So a run with an input variable never comes back to the start.
+-- Inputs are never unset once read: they have what was recorded for the scan that was read last. So a run with an input
+-- variable never comes back to the start.
 -- Assumes nothing.
 use Prim.Native.Nat.{ℕ, zero, suc, _+_, _-_, _<_, _≤_}
 use native.Mathlib.Omega.{arith}
-use mathlib.Core.Path.{_≡_, refl, sym, ap, _∙_}
-use mathlib.Core.List.{List, []}
-use lib.ListN.{length, length-replicate}
+use mathlib.Core.Path.{_≡_, refl, _∙_}
+use mathlib.Core.List.{List}
+use lib.ListN.{length}
 use Rattle.coding.specs.declared.Cause.{Cause}
-use Rattle.ranges.specs.Limits.{mostProcesses, mostVariables}
+use Rattle.ranges.specs.Limits.{mostProcesses}
 use Rattle.requirement.specs.declared.Phase.{Phase}
 use Rattle.requirement.specs.declared.Phase.the-variants.{Input, Exe, Output}
 use Rattle.lookups.specs.Places.{inputsOf, outputsOf}
 use Rattle.lookups.specs.Structure.{Table, numbersOf}
 use Rattle.lookups.proofs.Structured.{joined}
 use Rattle.structure.specs.Allowed.{Allowed}
-use Rattle.controller.specs.State.{none, valueAt, start}
+use Rattle.controller.specs.State.{start}
 use Rattle.controller.specs.declared.Controller.{Controller}
 use Rattle.scan.specs.Scanning.{readOf, writeOf}
 use Rattle.run.specs.Moves.{moveOf}
@@ -26,8 +27,8 @@ use Rattle.invariants.proofs.Sound.{sound}
 use Rattle.invariants.specs.Refusals.{Acts, Forbids, long-turn, no-rule}
 use Rattle.invariants.proofs.Phased.{fits-always}
 use Rattle.invariants.proofs.MoveKinds.{stepIn, by-kind}
-use Rattle.invariants.proofs.Reached.{run-allowed}
-use Rattle.invariants.proofs.Values.{Kept, unchanged, taken-size, taken-there, written-kept, step-inputs}
+use Rattle.invariants.proofs.Reached.{run-allowed, run-sized}
+use Rattle.invariants.proofs.Values.{Kept, taken-there, written-kept, step-inputs}
 
 -- Where a process or the write is next, the last read was that of the scan under way.
 under-way : (p : Phase) (c u s : ℕ) → Fit p c u → 0 < c → lastRead p s ≡ s
@@ -39,7 +40,8 @@ module _ (t : Table) (ok : Allowed mostProcesses t) (I : List ℕ) (scanRead : �
   abbrev T : List ℕ
   T = numbersOf t
 
-  -- Room for the input variables, and what they have: scanRead tells which recorded scan is read where so many are done.
+  -- Room for the input variables, and what they have: scanRead tells which recorded scan is read where so many are
+  -- done.
   abbrev Room : Machine → Type 0
   Room m = t .inputs ≤ length (m .state .variables)
 
@@ -49,9 +51,6 @@ module _ (t : Table) (ok : Allowed mostProcesses t) (I : List ℕ) (scanRead : �
   abbrev moved : Machine → Machine
   moved m = moveOf T I (scanRead (m .scan)) m .machine
 
-  kept-room : {v w : List ℕ} → Kept (t .inputs) v w → t .inputs ≤ length v → t .inputs ≤ length w
-  kept-room k h = rw (k .size) h
-
   kept-holding : {d : ℕ} {v w : List ℕ} → Kept (t .inputs) v w → Holding T I d v → Holding T I d w
   kept-holding k h = record { values = λ x b. k .same x (rw (joined t .inputs) at b) ∙ h .values x b }
 
@@ -59,14 +58,11 @@ module _ (t : Table) (ok : Allowed mostProcesses t) (I : List ℕ) (scanRead : �
   unfolding writeOf
   written-same c = rw (joined t .inputs) at (written-kept T (outputsOf T) 0 (c .variables))
 
-  step-same : (m : Machine) → StateAllowed t (m .state) → Acts T m → Kept (t .inputs) (m .state .variables) (stepIn T m .state .variables)
+  step-same : (m : Machine) → StateAllowed t (m .state) → Acts T m →
+      Kept (t .inputs) (m .state .variables) (stepIn T m .state .variables)
   step-same m h a =
       let all = joined t .processes in
       step-inputs t (sound mostProcesses t ok) (m .state .counter) (omega arith) (m .state) h
-
-  read-room : (d : ℕ) (c : Controller) → t .inputs ≤ length (c .variables) → t .inputs ≤ length (readOf T I d c .variables)
-  unfolding readOf
-  read-room d c h = rw (taken-size I (inputsOf T) d (inputsOf T) 0 (c .variables)) h
 
   read-holds : (d : ℕ) (c : Controller) → t .inputs ≤ length (c .variables) → Holding T I d (readOf T I d c .variables)
   unfolding readOf
@@ -74,17 +70,9 @@ module _ (t : Table) (ok : Allowed mostProcesses t) (I : List ℕ) (scanRead : �
       let n = joined t .inputs in
       record { values = λ k b. taken-there I (inputsOf T) d (inputsOf T) 0 k (c .variables) (omega arith) (omega arith) (omega arith) }
 
-  room-next : (m : Machine) → StateAllowed t (m .state) → Room m → Room (moved m)
-  room-next m h r =
-      by-kind (λ x. Room (x .machine)) T I (scanRead (m .scan)) m
-      (λ e. read-room (scanRead (m .scan)) (m .state) r)
-      (λ e f. kept-room (written-same (m .state)) r)
-      (λ a l e. kept-room (step-same m h a) r)
-      (λ a l e. kept-room (step-same m h a) r)
-      (λ cause f. r)
-
   -- Where the next move is no read, the inputs have been read.
-  held-next : (m : Machine) → Fits m → StateAllowed t (m .state) → Room m → (0 < m .state .counter → Held m) → Held (moved m)
+  held-next : (m : Machine) → Fits m → StateAllowed t (m .state) → Room m → (0 < m .state .counter → Held m) →
+      Held (moved m)
   held-next m f h r before =
       by-kind (λ x. Held (x .machine)) T I (scanRead (m .scan)) m
       (λ e. read-holds (scanRead (m .scan)) (m .state) r)
@@ -101,15 +89,11 @@ module _ (t : Table) (ok : Allowed mostProcesses t) (I : List ℕ) (scanRead : �
       acting (no-rule a _ _) = a .0
 
 module _ (t : Table) (ok : Allowed mostProcesses t) {I : List ℕ} {taking : ℕ → ℕ} {state : ℕ → Machine} (r : RunOf (numbersOf t) I taking state) where
-  start-room : t .inputs ≤ length (start mostProcesses .variables)
-  unfolding start
-  start-room = let few = ok .total in let e = length-replicate {A = ℕ} mostVariables none in omega arith
-
   room-at : (j : ℕ) → Room t ok I taking (state j)
-  room-at zero = rw (r .first) start-room
-  room-at (suc j) = rw (r .next j) (room-next t ok I taking (state j) (run-allowed t ok r j) (room-at j))
+  room-at j = let few = ok .total in omega (arith, run-sized t ok r j)
 
-  held-from : (j : ℕ) → (0 < state j .state .counter → Held t ok I taking (state j)) → Held t ok I taking (state (suc j))
+  held-from : (j : ℕ) → (0 < state j .state .counter → Held t ok I taking (state j)) →
+      Held t ok I taking (state (suc j))
   held-from j before = rw (r .next j) (held-next t ok I taking (state j) (fits-always r j) (run-allowed t ok r j) (room-at j) before)
 
   reading-first : state 0 .state .counter ≡ 0
@@ -120,7 +104,9 @@ module _ (t : Table) (ok : Allowed mostProcesses t) {I : List ℕ} {taking : ℕ
   held-at zero = held-from 0 (λ h. absurd (omega (arith, reading-first)))
   held-at (suc j) = held-from (suc j) (λ h. held-at j)
 
-  -- State 1 is the one after the first read: from there on the input variables have what is recorded for the scan that was read last.
-  pub inputs-held : (j : ℕ) → 1 ≤ j → Holding (numbersOf t) I (taking (lastRead (state j .phase) (state j .scan))) (state j .state .variables)
+  -- State 1 is the one after the first read: from there on the input variables have what is recorded for the scan that
+  -- was read last.
+  pub inputs-held : (j : ℕ) → 1 ≤ j →
+      Holding (numbersOf t) I (taking (lastRead (state j .phase) (state j .scan))) (state j .state .variables)
   inputs-held zero h = absurd (omega arith)
   inputs-held (suc j) h = held-at j

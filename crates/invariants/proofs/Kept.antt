@@ -18,11 +18,14 @@ use Rattle.controller.specs.Rules.{updated, elapsed, waited, restarted}
 use Rattle.controller.specs.declared.Process.{Process}
 use Rattle.controller.specs.declared.Controller.{Controller}
 use Rattle.controller.specs.declared.Action.{Action}
-use Rattle.controller.specs.declared.Action.the-variants.{Skip, End, Updates, Tout, Reset, StartP, StopP, Start, Set, Next, Stop, Err}
+use Rattle.controller.specs.declared.Action.the-variants.{Skip, End, Updates, Tout, Reset, StartP, StopP, Start, Set}
+use Rattle.controller.specs.declared.Action.the-variants.{Next, Stop, Err}
 use Rattle.scan.specs.Scanning.{readOf, writeOf}
 use Rattle.invariants.specs.Text.{statesFor, actionsFor, rowFor, testFor, There}
-use Rattle.invariants.specs.Allows.{RecordAllowed, StateAllowed, RecordAllowed.stopped as is-stopped, RecordAllowed.failed, RecordAllowed.active as is-active}
-use Rattle.invariants.proofs.Acting.{Sent, nobody, sends, sentOf, send, ownOf, ofTimer, ofReset, Naming, none-named, start-named, stop-named, naming}
+use Rattle.invariants.specs.Allows.{RecordAllowed, StateAllowed, RecordAllowed.stopped as is-stopped}
+use Rattle.invariants.specs.Allows.{RecordAllowed.failed, RecordAllowed.active as is-active}
+use Rattle.invariants.proofs.Acting.{Sent, nobody, sends, sentOf, send, ownOf, ofTimer, ofReset, Naming}
+use Rattle.invariants.proofs.Acting.{none-named, start-named, stop-named, naming}
 use Rattle.invariants.specs.Due.{guardBy, nextBy, codedBy}
 use Rattle.invariants.proofs.Stepping.{Plan, inTable, planBy, stepBy, step-is}
 use Rattle.invariants.proofs.Sound.{Fine, Sound}
@@ -43,7 +46,8 @@ module _ (t : Table) (s : Sound t) where
       at-one : 1 ≤ length (actionsFor t i (p .state))
       at-one = s .bodies i (p .state) b d
 
-      timer-allowed : (b₁ b₂ b₃ : Bool) (k : ℕ) → k ≤ length (actionsFor t i (p .state)) → RecordAllowed t i p → RecordAllowed t i (ofTimer b₁ b₂ b₃ p k [] stopped .own)
+      timer-allowed : (b₁ b₂ b₃ : Bool) (k : ℕ) → k ≤ length (actionsFor t i (p .state)) → RecordAllowed t i p →
+          RecordAllowed t i (ofTimer b₁ b₂ b₃ p k [] stopped .own)
       unfolding goes timed
       timer-allowed true b₂ b₃ k e h = is-active d at-one
       timer-allowed false true b₃ k e h = is-active d at-one
@@ -63,7 +67,8 @@ module _ (t : Table) (s : Sound t) where
       unfolding up
       up-one e = let m = s .states i b in rw (lt-ltb (p .state) 65535 (omega arith)) (omega arith)
 
-      own-allowed : (a : Action) (k : ℕ) → Fine t i (p .state) a → k ≤ length (actionsFor t i (p .state)) → RecordAllowed t i p → RecordAllowed t i (ownOf a k p)
+      own-allowed : (a : Action) (k : ℕ) → Fine t i (p .state) a → k ≤ length (actionsFor t i (p .state)) →
+          RecordAllowed t i p → RecordAllowed t i (ownOf a k p)
       unfolding ownOf goes entering updated waited restarted
       own-allowed Skip k f e h = h
       own-allowed End k f e h = is-active d at-one
@@ -78,15 +83,18 @@ module _ (t : Table) (s : Sound t) where
       own-allowed Stop k f e h = is-stopped refl
       own-allowed Err k f e h = failed refl
 
-    next-allowed : (c : Controller) → There t i (p .state) (p .action) → nextBy (testFor t) c (rowFor t i (p .state) (p .action)) ≤ length (actionsFor t i (p .state))
+    next-allowed : (c : Controller) → There t i (p .state) (p .action) →
+        nextBy (testFor t) c (rowFor t i (p .state) (p .action)) ≤ length (actionsFor t i (p .state))
     unfolding nextBy
     next-allowed c w = go (guardBy (testFor t) (c .variables) _ (rowFor t i (p .state) (p .action) .guard))
       where
-        go : (x : Bool) → pick x (rowFor t i (p .state) (p .action) .«next_if») (rowFor t i (p .state) (p .action) .«next_else») ≤ length (actionsFor t i (p .state))
+        go : (x : Bool) →
+            pick x (rowFor t i (p .state) (p .action) .«next_if») (rowFor t i (p .state) (p .action) .«next_else») ≤ length (actionsFor t i (p .state))
         go true = s .taken i (p .state) (p .action) w
         go false = s .other i (p .state) (p .action) w
 
-    own-planned : (c : Controller) (x : Plan) → Case t i b p (nextBy (testFor t) c) x → RecordAllowed t i p → RecordAllowed t i (ownOf (x .action) (x .next) p)
+    own-planned : (c : Controller) (x : Plan) → Case t i b p (nextBy (testFor t) c) x → RecordAllowed t i p →
+        RecordAllowed t i (ownOf (x .action) (x .next) p)
     unfolding ownOf goes
     own-planned c _ (skipping z) h = h
     own-planned c _ (ending d z) h = is-active d (s .bodies i (p .state) b d)
@@ -110,7 +118,8 @@ module _ (t : Table) (s : Sound t) where
   sent-allowed p f _ (start-named x) h = (h, first-allowed x h)
   sent-allowed p f _ (stop-named x) h = (h, stopped-allowed x)
 
-  sent-planned : (c : Controller) (i : ℕ) (b : OneOf i (length (t .processes))) (p : Process) (x : Plan) → Case t i b p (nextBy (testFor t) c) x → SentAllowed (sentOf (x .action))
+  sent-planned : (c : Controller) (i : ℕ) (b : OneOf i (length (t .processes))) (p : Process) (x : Plan) →
+      Case t i b p (nextBy (testFor t) c) x → SentAllowed (sentOf (x .action))
   sent-planned c i b p _ (skipping z) = tt
   sent-planned c i b p _ (ending d z) = tt
   sent-planned c i b p _ (acting w) = sent-allowed i (p .state) (codedBy (rowFor t i (p .state) (p .action))) (naming (codedBy (rowFor t i (p .state) (p .action)))) (s .fine i (p .state) (p .action) w)
@@ -120,7 +129,8 @@ module _ (t : Table) (s : Sound t) where
     pub room : length (t .processes) ≤ length ps
     pub records : (p : ℕ) → OneOf p (length (t .processes)) → RecordAllowed t p (recordAt ps p)
 
-  store-fits : (ps : List Process) (x : ℕ) (r : Process) → Fits ps → OneOf x (length (t .processes)) → RecordAllowed t x r → Fits (withRecord ps x r)
+  store-fits : (ps : List Process) (x : ℕ) (r : Process) → Fits ps → OneOf x (length (t .processes)) →
+      RecordAllowed t x r → Fits (withRecord ps x r)
   unfolding recordAt withRecord
   store-fits ps x r h b k = record { room = rw (length-set ps (x - 1) r) (h .room); records = λ p d. go p d (ℕ-discrete p x) }
     where
@@ -133,7 +143,8 @@ module _ (t : Table) (s : Sound t) where
   send-fits nobody ps h k = h
   send-fits (sends x r) ps h k = store-fits ps x r h (k .0) (k .1)
 
-  pub step-kept : (i : ℕ) (c : Controller) → OneOf i (length (t .processes)) → StateAllowed t c → StateAllowed t (stepBy (inTable t) i c .state)
+  pub step-kept : (i : ℕ) (c : Controller) → OneOf i (length (t .processes)) → StateAllowed t c →
+      StateAllowed t (stepBy (inTable t) i c .state)
   step-kept i c b h =
       let p = recordAt (c .processes) i in
       let x = planBy (inTable t) i c in

@@ -3,13 +3,13 @@ pub mod Stepping
 pub mod Sound
 pub mod Planning
 pub mod Kept
+pub mod Values
+pub mod MoveKinds
 pub mod Running
 pub mod Reached
-pub mod MoveKinds
 pub mod Going
 pub mod Refused
 pub mod Answered
-pub mod Values
 pub mod Phased
 pub mod Inputs
 pub mod Unset
@@ -17,3 +17,4 @@ pub mod NextState
 pub mod Turned
 pub mod Once
 pub mod EachScan
+pub mod Readings

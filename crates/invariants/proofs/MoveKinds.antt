@@ -1,4 +1,5 @@
--- The kinds of a move: a read, a write, an action that keeps the turn or passes it on, and a move that is stopped, each with what is known there.
+-- The kinds of a move: a read, a write, an action that keeps the turn or passes it on, and a move that is stopped, each
+-- with what is known there.
 -- Assumes nothing.
 use Prim.Native.Nat.{ℕ, _<_}
 use native.Mathlib.Omega.{arith}
@@ -16,8 +17,8 @@ use Rattle.controller.specs.declared.Outcome.{Outcome}
 use Rattle.controller.specs.declared.Outcome.the-variants.{Stays, Passes, NoRule}
 use Rattle.scan.specs.Scanning.{readOf, writeOf}
 use Rattle.run.specs.Limits.{longestTurn}
-use Rattle.run.specs.Moves.{to, stops, stepOf, tooLong, unruled, before, unless, afterAction, actionMove, afterRead, afterWrite, moveOf}
-use Rattle.run.specs.declared.Going.{Going}
+use Rattle.run.specs.Moves.{to, stops, stepOf, tooLong, unruled, before, unless, afterAction, actionMove, afterRead}
+use Rattle.run.specs.Moves.{afterWrite, moveOf}
 use Rattle.run.specs.declared.Going.the-variants.{On, Stopped}
 use Rattle.run.specs.declared.Machine.{Machine}
 use Rattle.run.specs.declared.Moved.{Moved}
@@ -35,7 +36,8 @@ module _ (P : Moved → Type 0) (T I : List ℕ) (d : ℕ) (m : Machine)
     (stay : Acts T m → m .used < longestTurn → stepIn T m .outcome ≡ Stays → P (to (afterStay m (stepIn T m .state))))
     (pass : Acts T m → m .used < longestTurn → stepIn T m .outcome ≡ Passes → P (to (afterPass m (stepIn T m .state))))
     (stop : (cause : Cause) → Forbids T m cause → P (stops cause m)) where
-  by-rule : Acts T m → m .used < longestTurn → (o : Outcome) → stepIn T m .outcome ≡ o → P (unless (unruled o) m (afterAction m o (stepIn T m .state)))
+  by-rule : Acts T m → m .used < longestTurn → (o : Outcome) → stepIn T m .outcome ≡ o →
+      P (unless (unruled o) m (afterAction m o (stepIn T m .state)))
   by-rule a l Stays e = stay a l e
   by-rule a l Passes e = pass a l e
   by-rule a l NoRule e = stop NoRuleFound (no-rule a l e)
@@ -53,7 +55,8 @@ module _ (P : Moved → Type 0) (T I : List ℕ) (d : ℕ) (m : Machine)
   unfolding moveOf
   by-kind = go (eqb (m .state .counter) 0) (ltb (processesOf T) (m .state .counter)) refl refl
     where
-      go : (x y : Bool) → eqb (m .state .counter) 0 ≡ x → ltb (processesOf T) (m .state .counter) ≡ y → P (moveOf T I d m)
+      go : (x y : Bool) → eqb (m .state .counter) 0 ≡ x → ltb (processesOf T) (m .state .counter) ≡ y →
+          P (moveOf T I d m)
       go true y e f = rw e (read (eqb-true (m .state .counter) 0 e))
       go false true e f =
           let n : ¬ (m .state .counter ≡ 0) = eqb-false (m .state .counter) 0 e in

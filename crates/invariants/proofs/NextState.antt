@@ -2,7 +2,7 @@
 -- Assumes nothing.
 use Prim.Native.Nat.{ℕ, suc, _+_, _<_}
 use native.Mathlib.Omega.{arith}
-use mathlib.Core.Path.{_≡_, refl, ap, _∙_}
+use mathlib.Core.Path.{_≡_, refl, _∙_}
 use mathlib.Core.Logic.{_⊎_, inl, inr}
 use mathlib.Core.Bool.{Bool, true, false}
 use mathlib.Core.List.{List}
@@ -93,7 +93,8 @@ acting (long-turn a _) = a
 acting (no-rule a _ _) = a
 
 module _ (T I : List ℕ) (d : ℕ) (m : Machine) where
-  acted : processesOf T < 65535 → Acts T m → moveOf T I d m .going ≡ On → Stayed T m (moveOf T I d m .machine) ⊎ Passed T m (moveOf T I d m .machine)
+  acted : processesOf T < 65535 → Acts T m → moveOf T I d m .going ≡ On →
+      Stayed T m (moveOf T I d m .machine) ⊎ Passed T m (moveOf T I d m .machine)
   acted few a =
       let counts = step-counts T (m .state .counter) (m .state) in
       by-kind (λ x. x .going ≡ On → Stayed T m (x .machine) ⊎ Passed T m (x .machine)) T I d m
@@ -136,7 +137,8 @@ module _ (T I : List ℕ) (d : ℕ) (m : Machine) where
       by-kind (λ x. ¬ (x .machine .phase ≡ Output) → x .machine .scan ≡ m .scan) T I d m
       (λ e n. refl) (λ e f n. absurd (n refl)) (λ a l e n. refl) (λ a l e n. refl) (λ cause f n. refl)
 
-  output-scan : moveOf T I d m .going ≡ On → moveOf T I d m .machine .phase ≡ Output → moveOf T I d m .machine .scan ≡ m .scan + 1
+  output-scan : moveOf T I d m .going ≡ On → moveOf T I d m .machine .phase ≡ Output →
+      moveOf T I d m .machine .scan ≡ m .scan + 1
   output-scan =
       by-kind (λ x. x .going ≡ On → x .machine .phase ≡ Output → x .machine .scan ≡ m .scan + 1) T I d m
       (λ e g o. absurd (input-or-output refl o)) (λ e f g o. refl) (λ a l e g o. absurd (exe-or-output refl o)) (λ a l e g o. absurd (exe-or-output refl o))
@@ -144,7 +146,8 @@ module _ (T I : List ℕ) (d : ℕ) (m : Machine) where
 
 -- ---- the same of the states of a run
 module _ {T I : List ℕ} {taking : ℕ → ℕ} {state : ℕ → Machine} (r : RunOf T I taking state) (k : ℕ) where
-  pub acted-at : processesOf T < 65535 → Acts T (state k) → moveAt T I taking state k .going ≡ On → Stayed T (state k) (state (suc k)) ⊎ Passed T (state k) (state (suc k))
+  pub acted-at : processesOf T < 65535 → Acts T (state k) → moveAt T I taking state k .going ≡ On →
+      Stayed T (state k) (state (suc k)) ⊎ Passed T (state k) (state (suc k))
   acted-at few a g = rw (r .next k) (acted T I (taking (state k .scan)) (state k) few a g)
 
   pub read-at : turnAt state k ≡ 0 → WasRead (state (suc k))
@@ -156,5 +159,6 @@ module _ {T I : List ℕ} {taking : ℕ → ℕ} {state : ℕ → Machine} (r : 
   pub same-scan-at : ¬ (state (suc k) .phase ≡ Output) → state (suc k) .scan ≡ state k .scan
   same-scan-at n = rw (r .next k) (same-scan T I (taking (state k .scan)) (state k) (rw (r .next k) at n))
 
-  pub output-scan-at : moveAt T I taking state k .going ≡ On → state (suc k) .phase ≡ Output → state (suc k) .scan ≡ state k .scan + 1
+  pub output-scan-at : moveAt T I taking state k .going ≡ On → state (suc k) .phase ≡ Output →
+      state (suc k) .scan ≡ state k .scan + 1
   output-scan-at g o = rw (r .next k) (output-scan T I (taking (state k .scan)) (state k) g (rw (r .next k) at o))

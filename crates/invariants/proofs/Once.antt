@@ -4,7 +4,7 @@ use Prim.Native.Nat.{ℕ, suc, _+_, _-_, _<_, _≤_}
 use native.Mathlib.Omega.{arith}
 use native.Mathlib.Nat.{eq-or-lt-of-le}
 use native.Mathlib.Decide.{decLt}
-use mathlib.Core.Path.{_≡_, refl, sym, _∙_}
+use mathlib.Core.Path.{_≡_}
 use mathlib.Core.Logic.{⊎-elim}
 use mathlib.Core.List.{List}
 use Rattle.lookups.specs.Places.{processesOf}
@@ -47,7 +47,8 @@ module _ {T : List ℕ} {state : ℕ → Machine} where
       go i a b c (yes l) = omega (arith, at-last t i a l c)
       go i a b c (no l) = absurd (omega (arith, no-sooner ts i (omega arith) b, c .whose))
 
-  once-later : {p q from next to : ℕ} → q < p → Turn T state q from next → Once T state p next to → Once T state p from to
+  once-later : {p q from next to : ℕ} → q < p → Turn T state q from next → Once T state p next to →
+      Once T state p from to
   once-later {p} {q} {from} {next} {to} h t o =
       let some = t .some in
       let there = o .among in
@@ -66,5 +67,6 @@ module _ {T : List ℕ} {state : ℕ → Machine} where
       same e t ts = rw (← e) (once-first t ts)
 
   -- "Each process passes its turn exactly once a scan"
-  pub passes-once : {read write : ℕ} → ScanOf T state read write → (p : ℕ) → OneOf p (processesOf T) → Once T state p (suc read) write
+  pub passes-once : {read write : ℕ} → ScanOf T state read write → (p : ℕ) → OneOf p (processesOf T) →
+      Once T state p (suc read) write
   passes-once s p b = once-among (s .turns) (b .0) (b .1)

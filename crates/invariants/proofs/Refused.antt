@@ -4,8 +4,8 @@ use Prim.Native.Nat.{ℕ, zero, suc, _+_, _-_, _<_, _≤_}
 use native.Mathlib.Omega.{arith}
 use native.Mathlib.Nat.{eq-or-lt-of-le}
 use native.Mathlib.Decide.{decLt}
-use mathlib.Core.Path.{_≡_, refl, sym, ap, _∙_}
-use mathlib.Core.Logic.{_↔_, _⊎_, inl, inr, ⊎-elim}
+use mathlib.Core.Path.{_≡_, refl}
+use mathlib.Core.Logic.{_↔_, ⊎-elim}
 use mathlib.Core.Bool.{Bool, true, false}
 use mathlib.Core.List.{List}
 use lib.Dec.{ltb}
@@ -17,18 +17,18 @@ use Rattle.lookups.specs.Places.{scansOf, returnOf}
 use Rattle.controller.specs.Same.{sameState}
 use Rattle.controller.proofs.Equal.{same-is-equal, equal-is-same}
 use Rattle.run.specs.Limits.{lastState}
-use Rattle.run.specs.Running.{recordedMove, here, stoppedAt, reached, toReturn, toEnd, turnOf, halted, closing, ranOf}
+use Rattle.run.specs.Running.{recordedMove, stoppedAt, reached, toReturn, toEnd, turnOf, halted, closing, ranOf}
 use Rattle.run.specs.declared.Going.{Going}
 use Rattle.run.specs.declared.Going.the-variants.{On, Stopped}
-use Rattle.run.specs.declared.Machine.{Machine}
 use Rattle.run.specs.declared.Reached.{Reached}
 use Rattle.run.specs.declared.Ran.{Ran}
 use Rattle.run.specs.declared.Ran.the-variants.{Closed, Halted}
 use Rattle.endless.specs.Recorded.{stateAt, MovesOn}
 use Rattle.endless.proofs.States.{Arrived, Came, is-here, is-stopped, no-room, goes-on, on-or-stopped}
 use Rattle.endless.proofs.Ended.{came-back, came-end}
-use Rattle.invariants.specs.Refusals.{Forbids, Stops, action, long-run, Arises, AfterScan, Ends, stopped, differs, closes}
-use Rattle.invariants.proofs.Going.{Says, says, forbidden-stops, one-cause, scan-most, scans-rise}
+use Rattle.invariants.specs.Refusals.{Forbids, Stops, action, long-run, Arises, AfterScan, Ends, stopped, differs}
+use Rattle.invariants.specs.Refusals.{closes}
+use Rattle.invariants.proofs.Going.{says, forbidden-stops, one-cause, scan-most, scans-rise}
 
 -- ---- what is known where a run was stopped on its way to k scans, from state n on
 record StoppedAt (T I : List ℕ) (k n : ℕ) (cause : Cause) (r : Reached) : Type 0 where
@@ -42,14 +42,17 @@ abbrev Told : List ℕ → List ℕ → ℕ → ℕ → Reached → Going → Ty
 Told T I k n r On = Unit {0}
 Told T I k n r (Stopped cause) = StoppedAt T I k n cause r
 
-told-stopped : (T I : List ℕ) (k n : ℕ) (r : Reached) (g : Going) (cause : Cause) → Told T I k n r g → g ≡ Stopped cause → StoppedAt T I k n cause r
+told-stopped : (T I : List ℕ) (k n : ℕ) (r : Reached) (g : Going) (cause : Cause) → Told T I k n r g →
+    g ≡ Stopped cause → StoppedAt T I k n cause r
 told-stopped T I k n r g cause t e = rw e at t
 
 module _ (T I : List ℕ) (k : ℕ) where
-  stopped-here : (n : ℕ) (cause : Cause) → n ≤ lastState → stateAt T I n .scan < k → Stops T I n cause → StoppedAt T I k n cause (stoppedAt cause n (stateAt T I n))
+  stopped-here : (n : ℕ) (cause : Cause) → n ≤ lastState → stateAt T I n .scan < k → Stops T I n cause →
+      StoppedAt T I k n cause (stoppedAt cause n (stateAt T I n))
   stopped-here n cause l e s = record { machine = refl; last = l; on = λ j a b. absurd (omega arith); stops = s; early = e }
 
-  one-sooner : (n : ℕ) (r : Reached) (g : Going) → recordedMove T I (stateAt T I n) .going ≡ On → Told T I k (suc n) r g → Told T I k n r g
+  one-sooner : (n : ℕ) (r : Reached) (g : Going) → recordedMove T I (stateAt T I n) .going ≡ On →
+      Told T I k (suc n) r g → Told T I k n r g
   one-sooner n r On e h = tt
   one-sooner n r (Stopped cause) e h = record {
     machine = h .machine;
@@ -60,10 +63,12 @@ module _ (T I : List ℕ) (k : ℕ) where
   }
 
   -- What is against a move, and that nothing is.
-  against : (n : ℕ) (cause : Cause) → recordedMove T I (stateAt T I n) .going ≡ Stopped cause → Forbids T (stateAt T I n) cause
+  against : (n : ℕ) (cause : Cause) → recordedMove T I (stateAt T I n) .going ≡ Stopped cause →
+      Forbids T (stateAt T I n) cause
   against n cause e = rw e at (says T (stateAt T I n) I (stateAt T I n .scan))
 
-  nothing-against : (n : ℕ) → recordedMove T I (stateAt T I n) .going ≡ On → (cause : Cause) → ¬ Forbids T (stateAt T I n) cause
+  nothing-against : (n : ℕ) → recordedMove T I (stateAt T I n) .going ≡ On → (cause : Cause) →
+      ¬ Forbids T (stateAt T I n) cause
   nothing-against n e cause f = forbidden-stops T (stateAt T I n) I (stateAt T I n .scan) f e
 
   abbrev From : ℕ → ℕ → Reached
@@ -87,7 +92,9 @@ module _ (T I : List ℕ) (k : ℕ) where
           (on-or-stopped (recordedMove T I (stateAt T I n) .going))
   told (suc more) n full = go (ltb (stateAt T I n .scan) k) refl (told more (suc n) (omega arith))
     where
-      go : (b : Bool) → ltb (stateAt T I n .scan) k ≡ b → Told T I k (suc n) (From more (suc n)) (From more (suc n) .going) → Told T I k n (From (suc more) n) (From (suc more) n .going)
+      go : (b : Bool) → ltb (stateAt T I n .scan) k ≡ b →
+          Told T I k (suc n) (From more (suc n)) (From more (suc n) .going) →
+          Told T I k n (From (suc more) n) (From (suc more) n .going)
       go false e next = rw (is-here T I k n (stateAt T I n) (suc more) e) tt
       go true e next =
           let early = ltb-true (stateAt T I n .scan) k e in
@@ -131,12 +138,14 @@ module _ (T I : List ℕ) where
       go j c (yes k) = omega (arith, r .before j (omega arith) k)
       go j c (no k) = s .before j (omega arith) c
 
-  by-stop : (cause : Cause) (r : Reached) (k n : ℕ) → k ≤ scansOf I → MovesOn T I 0 n → StoppedAt T I k n cause r → Ends T I (halted cause (r .machine))
+  by-stop : (cause : Cause) (r : Reached) (k n : ℕ) → k ≤ scansOf I → MovesOn T I 0 n → StoppedAt T I k n cause r →
+      Ends T I (halted cause (r .machine))
   by-stop cause r k n h on s =
       let early = s .early in
       rw (s .machine) (stopped (r .number) (arises (r .number) (s .last) (joined n (r .number) on (s .on))) (s .stops) (omega arith))
 
-  by-closing : (back last : Reached) → back .machine ≡ stateAt T I (back .number) → last .machine ≡ stateAt T I (last .number) →
+  by-closing : (back last : Reached) → back .machine ≡ stateAt T I (back .number) →
+      last .machine ≡ stateAt T I (last .number) →
       AfterScan T I (returnOf I) (back .number) → AfterScan T I (scansOf I) (last .number) → Ends T I (closing (scansOf I) back last)
   unfolding closing
   by-closing back last e f b l = go (sameState (last .machine .state) (back .machine .state)) refl
@@ -150,15 +159,18 @@ module _ (T I : List ℕ) where
           not-same p r = let z : _≡_ {A = ℕ} 0 1 = cc in omega arith
 
   -- ---- the ways of the definition
-  back-stopped : (cause : Cause) → toReturn T I .going ≡ Stopped cause → ranOf T I ≡ halted cause (toReturn T I .machine)
+  back-stopped : (cause : Cause) → toReturn T I .going ≡ Stopped cause →
+      ranOf T I ≡ halted cause (toReturn T I .machine)
   unfolding ranOf
   back-stopped cause g = rw (g, ranOf) refl
 
-  last-stopped : (cause : Cause) → toReturn T I .going ≡ On → toEnd T I .going ≡ Stopped cause → ranOf T I ≡ halted cause (toEnd T I .machine)
+  last-stopped : (cause : Cause) → toReturn T I .going ≡ On → toEnd T I .going ≡ Stopped cause →
+      ranOf T I ≡ halted cause (toEnd T I .machine)
   unfolding ranOf
   last-stopped cause g h = rw (g, h, ranOf) refl
 
-  both-on : (r : Ran) → closing (scansOf I) (toReturn T I) (toEnd T I) ≡ r → toReturn T I .going ≡ On → toEnd T I .going ≡ On → ranOf T I ≡ r
+  both-on : (r : Ran) → closing (scansOf I) (toReturn T I) (toEnd T I) ≡ r → toReturn T I .going ≡ On →
+      toEnd T I .going ≡ On → ranOf T I ≡ r
   unfolding ranOf
   both-on r e g h = rw (g, h, ranOf) e
 
@@ -170,7 +182,8 @@ module _ (T I : List ℕ) where
   unfolding toReturn stateAt
   back-told = told T I (returnOf I) (lastState - 0) 0 (omega arith)
 
-  end-told : Came T I (returnOf I) 0 lastState (toReturn T I) → Told T I (scansOf I) (toReturn T I .number) (toEnd T I) (toEnd T I .going)
+  end-told : Came T I (returnOf I) 0 lastState (toReturn T I) →
+      Told T I (scansOf I) (toReturn T I .number) (toEnd T I) (toEnd T I .going)
   unfolding toEnd
   end-told c = onward-told (toReturn T I) (scansOf I) (c .machine) (c .bound)
 
@@ -241,6 +254,7 @@ module _ (T I : List ℕ) where
   one-end _ _ (closes _ _ c m e) (differs _ _ b l n) = absurd (n (rw (same-after b c, same-after l m) e))
   one-end _ _ (closes _ _ b l _) (closes _ _ c m _) = rw (same-after b c, same-after l m) refl
 
--- A run answers what its states say, and nothing else. Of inputs whose return scan is below their scans, as accepted ones have it.
+-- A run answers what its states say, and nothing else. Of inputs whose return scan is below their scans, as accepted
+-- ones have it.
 pub ran-exactly : (T I : List ℕ) → returnOf I < scansOf I → (r : Ran) → (ranOf T I ≡ r) ↔ Ends T I r
 ran-exactly T I below r = (λ e. rw e at (ends T I below), λ h. one-end T I (ranOf T I) r (ends T I below) h)

@@ -9,24 +9,30 @@ use Rattle.lookups.specs.Places.{noAction}
 use Rattle.lookups.specs.Structure.{Table}
 use Rattle.lookups.specs.declared.TestRow.{TestRow}
 use Rattle.lookups.specs.declared.ActionRow.{ActionRow}
-use Rattle.structure.specs.Allowed.{OneOf, Each, IsInternal, Spot, Guarded, Unguarded, TestAllowed, ActionAllowed, StateAllowed, ProcessAllowed, Allowed}
+use Rattle.structure.specs.Allowed.{OneOf, Each, IsInternal, Spot, Guarded, Unguarded, TestAllowed, ActionAllowed}
+use Rattle.structure.specs.Allowed.{StateAllowed, ProcessAllowed, Allowed}
 use Rattle.structure.specs.Allowed.{TestAllowed.equals, TestAllowed.exceeds, TestAllowed.in-state}
-use Rattle.structure.specs.Allowed.{ActionAllowed.constant, ActionAllowed.copy, ActionAllowed.add, ActionAllowed.tout, ActionAllowed.reset}
-use Rattle.structure.specs.Allowed.{ActionAllowed.start-other, ActionAllowed.stop-other, ActionAllowed.start, ActionAllowed.set, ActionAllowed.next, ActionAllowed.stop, ActionAllowed.err}
+use Rattle.structure.specs.Allowed.{ActionAllowed.constant, ActionAllowed.copy, ActionAllowed.add, ActionAllowed.tout}
+use Rattle.structure.specs.Allowed.{ActionAllowed.reset}
+use Rattle.structure.specs.Allowed.{ActionAllowed.start-other, ActionAllowed.stop-other, ActionAllowed.start}
+use Rattle.structure.specs.Allowed.{ActionAllowed.set, ActionAllowed.next, ActionAllowed.stop, ActionAllowed.err}
 use Rattle.controller.specs.Actions.{actionOf}
 use Rattle.controller.specs.declared.Action.{Action}
-use Rattle.controller.specs.declared.Action.the-variants.{Skip, End, Updates, Tout, Reset, StartP, StopP, Start, Set, Next, Stop, Err}
+use Rattle.controller.specs.declared.Action.the-variants.{Skip, End, Updates, Tout, Reset, StartP, StopP, Start, Set}
+use Rattle.controller.specs.declared.Action.the-variants.{Next, Stop, Err}
 use Rattle.invariants.specs.Text.{statesFor, actionsFor, rowFor, testFor, There}
 use Rattle.invariants.specs.Due.{codedBy}
 
-each-at : {A : Type 0} (P : ℕ → A → Type 0) (n : ℕ) (l : List A) (k : ℕ) (d : A) → Each P n l → k < length l → P (n + k) (getD l k d)
+each-at : {A : Type 0} (P : ℕ → A → Type 0) (n : ℕ) (l : List A) (k : ℕ) (d : A) → Each P n l → k < length l →
+    P (n + k) (getD l k d)
 unfolding Each
 each-at P n [] k d h b = absurd (omega arith)
 each-at P n (x ∷ l) zero d h b = let e : n ≡ n + 0 = omega arith in rw (← e) (h .0)
 each-at P n (x ∷ l) (suc k) d h b = let e : n + suc k ≡ suc n + k = omega arith in rw e (each-at P (suc n) l k d (h .1) (omega arith))
 
 -- Counted from 1.
-each-from-one : {A : Type 0} (P : ℕ → A → Type 0) (l : List A) (k : ℕ) (d : A) → Each P 1 l → OneOf k (length l) → P k (getD l (k - 1) d)
+each-from-one : {A : Type 0} (P : ℕ → A → Type 0) (l : List A) (k : ℕ) (d : A) → Each P 1 l → OneOf k (length l) →
+    P k (getD l (k - 1) d)
 each-from-one P l k d h b = let e : 1 + (k - 1) ≡ k = omega arith in rw e at (each-at P 1 l (k - 1) d h (omega arith))
 
 -- What an action asks of the table, in state s of process p.
@@ -45,7 +51,8 @@ Fine t p s Stop = Unit {0}
 Fine t p s Err = Unit {0}
 
 pub record Sound (t : Table) : Type 0 where
-  pub bodies : (p s : ℕ) → OneOf p (length (t .processes)) → OneOf s (length (statesFor t p)) → 1 ≤ length (actionsFor t p s)
+  pub bodies : (p s : ℕ) → OneOf p (length (t .processes)) → OneOf s (length (statesFor t p)) →
+      1 ≤ length (actionsFor t p s)
   pub states : (p : ℕ) → OneOf p (length (t .processes)) → OneOf (length (statesFor t p)) 8
   pub guard : (p s a : ℕ) → There t p s a → rowFor t p s a .guard ≤ length (t .tests)
   pub taken : (p s a : ℕ) → There t p s a → rowFor t p s a .«next_if» ≤ length (actionsFor t p s)
@@ -94,10 +101,12 @@ module _ (most : ℕ) (t : Table) (h : Allowed most t) where
   pub process-allowed : (p : ℕ) → OneOf p (length (t .processes)) → ProcessAllowed t p (statesFor t p)
   process-allowed p b = each-from-one (λ q l. ProcessAllowed t q l) (t .processes) p [] (h .processes) b
 
-  state-allowed : (p s : ℕ) → OneOf p (length (t .processes)) → OneOf s (length (statesFor t p)) → StateAllowed t p (length (statesFor t p)) s (actionsFor t p s)
+  state-allowed : (p s : ℕ) → OneOf p (length (t .processes)) → OneOf s (length (statesFor t p)) →
+      StateAllowed t p (length (statesFor t p)) s (actionsFor t p s)
   state-allowed p s b d = each-from-one (λ q l. StateAllowed t p (length (statesFor t p)) q l) (statesFor t p) s [] (process-allowed p b .1) d
 
-  row-at : (p s a : ℕ) → There t p s a → RowSound t p (length (statesFor t p)) s (length (actionsFor t p s)) (rowFor t p s a)
+  row-at : (p s a : ℕ) → There t p s a →
+      RowSound t p (length (statesFor t p)) s (length (actionsFor t p s)) (rowFor t p s a)
   row-at p s a w =
       row-sound t p (length (statesFor t p)) s (length (actionsFor t p s)) (rowFor t p s a)
       (each-from-one (λ q r. ActionAllowed t (record { process = p; states = length (statesFor t p); state = s; actions = length (actionsFor t p s) }) r)

@@ -1,4 +1,5 @@
--- A step by look-ups, whatever they look in: the action that is due, then its rule. The run's own step is the one by look-ups in the table's numbers.
+-- A step by look-ups, whatever they look in: the action that is due, then its rule. The run's own step is the one by
+-- look-ups in the table's numbers.
 -- Assumes nothing.
 use Prim.Native.Nat.{ℕ}
 use mathlib.Core.Path.{_≡_, refl}
@@ -54,7 +55,8 @@ planBy L i c = planOf (L .row i) (nextBy (L .test) c) (recordAt (c .processes) i
 unfoldable pub stepBy : Look → ℕ → Controller → Acted
 stepBy L i c = actOf i (planBy L i c .action) (planBy L i c .next) c
 
-pub step-is : (L : Look) (i : ℕ) (c : Controller) → stepBy L i c ≡ acted i (planBy L i c .action) (planBy L i c .next) (recordAt (c .processes) i) c
+pub step-is : (L : Look) (i : ℕ) (c : Controller) →
+    stepBy L i c ≡ acted i (planBy L i c .action) (planBy L i c .next) (recordAt (c .processes) i) c
 unfolding stepBy
 step-is L i c = act-is i (planBy L i c .action) (planBy L i c .next) c
 

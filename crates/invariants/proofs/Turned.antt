@@ -4,7 +4,7 @@ use Prim.Native.Nat.{ℕ, zero, suc, _+_, _-_, _<_, _≤_}
 use native.Mathlib.Omega.{arith}
 use native.Mathlib.Nat.{eq-or-lt-of-le}
 use native.Mathlib.Decide.{decLt}
-use mathlib.Core.Path.{_≡_, refl, sym, _∙_}
+use mathlib.Core.Path.{_≡_, refl, _∙_}
 use mathlib.Core.Logic.{⊎-elim}
 use mathlib.Core.List.{List}
 use Rattle.requirement.specs.declared.Phase.{Phase}
@@ -17,9 +17,10 @@ use Rattle.run.specs.declared.Going.the-variants.{On}
 use Rattle.run.specs.declared.Machine.{Machine}
 use Rattle.endless.proofs.Phases.{Fit}
 use Rattle.invariants.specs.Runs.{RunOf, moveAt}
-use Rattle.invariants.specs.Turns.{turnAt, outcomeAt, Turn, Turns, none-left, turn, Reads, Writes, WithinScan, ScanOf}
+use Rattle.invariants.specs.Turns.{turnAt, outcomeAt, Turn, Turns, none-left, turn, WithinScan, ScanOf}
 use Rattle.invariants.proofs.Phased.{fits-always}
-use Rattle.invariants.proofs.NextState.{exe-or-output, input-or-output, Stayed, Passed, acted-at, read-at, written-at, same-scan-at}
+use Rattle.invariants.proofs.NextState.{exe-or-output, input-or-output, Stayed, Passed, acted-at, read-at}
+use Rattle.invariants.proofs.NextState.{written-at, same-scan-at}
 
 -- ---- what is left of a turn in which u actions are done
 record Rest (T : List ℕ) (state : ℕ → Machine) (p u from to : ℕ) : Type 0 where
@@ -77,7 +78,8 @@ at-output Exe c u f e = absurd (exe-or-output refl e)
 at-output Output c u f e = f .0
 
 -- One state further within the scan.
-within-next : (state : ℕ → Machine) (read k : ℕ) → WithinScan state read k → ¬ (state (suc k) .phase ≡ Output) → WithinScan state read (suc k)
+within-next : (state : ℕ → Machine) (read k : ℕ) → WithinScan state read k → ¬ (state (suc k) .phase ≡ Output) →
+    WithinScan state read (suc k)
 within-next state read k w n j a b = ⊎-elim (λ (e : j ≡ suc k). rw e n) (λ (l : j < suc k). w j a (omega arith)) (eq-or-lt-of-le b)
 
 module _ {T I : List ℕ} {taking : ℕ → ℕ} {state : ℕ → Machine} (r : RunOf T I taking state) (some : 1 ≤ processesOf T) (few : processesOf T < 65535) (read : ℕ)
@@ -90,7 +92,8 @@ module _ {T I : List ℕ} {taking : ℕ → ℕ} {state : ℕ → Machine} (r : 
     counter : turnAt state next ≡ p + 1
     used : state next .used ≡ 0
 
-  turn-from : (left p u k : ℕ) → u + left ≡ longestTurn → read < k → WithinScan state read k → turnAt state k ≡ p → OneOf p (processesOf T) → state k .used ≡ u → TurnDone p u k
+  turn-from : (left p u k : ℕ) → u + left ≡ longestTurn → read < k → WithinScan state read k → turnAt state k ≡ p →
+      OneOf p (processesOf T) → state k .used ≡ u → TurnDone p u k
   turn-from zero p u k e a w c o v =
       ⊎-elim (λ (s : Stayed T (state k) (state (suc k))). absurd (omega (arith, s .within))) (λ (s : Passed T (state k) (state (suc k))). absurd (omega (arith, s .within)))
       (acted-at r k few (rw c o) (on k (omega arith) w))
@@ -121,7 +124,8 @@ module _ {T I : List ℕ} {taking : ℕ → ℕ} {state : ℕ → Machine} (r : 
   one-more p k h r s =
       record { write = s .write; turns = turn {p = p} {to = s .write} h (whole-turn (r .rest)) (s .turns); after = s .after; within = s .within; counter = s .counter }
 
-  turns-from : (left p k : ℕ) → p + left ≡ processesOf T + 1 → 1 ≤ p → read < k → WithinScan state read k → turnAt state k ≡ p → state k .used ≡ 0 → TurnsDone p k
+  turns-from : (left p k : ℕ) → p + left ≡ processesOf T + 1 → 1 ≤ p → read < k → WithinScan state read k →
+      turnAt state k ≡ p → state k .used ≡ 0 → TurnsDone p k
   turns-from zero p k e o a w c v = record { write = k; turns = none-left {p = p} (omega arith); after = a; within = w; counter = omega arith }
   turns-from (suc left) p k e o a w c v =
       let r = turn-from longestTurn p 0 k (omega arith) a w c (o, omega arith) v in
@@ -138,7 +142,8 @@ module _ {T I : List ℕ} {taking : ℕ → ℕ} {state : ℕ → Machine} (r : 
   same-scan : (k : ℕ) → read ≤ k → WithinScan state read k → state k .scan ≡ state read .scan
   same-scan k a w = let e : read + (k - read) ≡ k = omega arith in rw e at (same-along (k - read) (λ j b c. w j b (omega arith)))
 
-  -- From a state that is just after a write, or the start: if the moves go on as long as no other such state has come, they are a scan.
+  -- From a state that is just after a write, or the start: if the moves go on as long as no other such state has come,
+  -- they are a scan.
   pub scan-turns : state read .phase ≡ Output → (write : ℕ) × ScanOf T state read write
   scan-turns out =
       let m = state read in
@@ -171,7 +176,8 @@ turns-ordered (none-left e) = omega arith
 turns-ordered (turn h t ts) = let a = t .some in let b = turns-ordered ts in omega arith
 
 -- So the moves between two such states, with none between, are a scan, if they go on.
-pub between-outputs : {T I : List ℕ} {taking : ℕ → ℕ} {state : ℕ → Machine} (r : RunOf T I taking state) → 1 ≤ processesOf T → processesOf T < 65535 →
+pub between-outputs : {T I : List ℕ} {taking : ℕ → ℕ} {state : ℕ → Machine} (r : RunOf T I taking state) →
+    1 ≤ processesOf T → processesOf T < 65535 →
     (read end : ℕ) → read < end → ((k : ℕ) → read ≤ k → k < end → moveAt T I taking state k .going ≡ On) →
     state read .phase ≡ Output → state end .phase ≡ Output → ((k : ℕ) → read < k → k < end → ¬ (state k .phase ≡ Output)) →
     (write : ℕ) × ScanOf T state read write × (end ≡ suc write)

@@ -1,11 +1,12 @@
--- "Inputs are never unset once read", said of bytes that are accepted; and that a run with an input variable never comes back to the start.
+-- "Inputs are never unset once read", said of bytes that are accepted; and that a run with an input variable never
+-- comes back to the start.
 -- Assumes nothing.
 use Prim.Native.Nat.{ℕ, zero, suc, _+_, _<_, _≤_}
 use native.Mathlib.Omega.{arith}
 use native.Mathlib.Decide.{decLt}
-use mathlib.Core.Path.{_≡_, refl, sym, ap, _∙_}
+use mathlib.Core.Path.{_≡_, refl, ap}
 use mathlib.Core.List.{List, [], _∷_}
-use lib.ListN.{length, drop, getD, replicate}
+use lib.ListN.{length, drop, getD}
 use lib.Seq.{getD-drop}
 use Rattle.coding.specs.Number.{Begin, number, none as no-number, first}
 use Rattle.coding.specs.Code.{itemOr, codeFrom, codeAt, values}
@@ -35,7 +36,8 @@ small-from (suc f) p [] small i = omega arith
 small-from (suc f) p (b ∷ s) small i =
     go (first (b ∷ s)) (written-read (b ∷ s) small) i (λ k j. small-from f (p + k) (drop k (b ∷ s)) (λ l. rw getD-drop (small (k + l))) j)
   where
-    go : (m : Begin) → Begins (b ∷ s) m → (i : ℕ) → ((k j : ℕ) → getD (values (codeFrom f (p + k) (drop k (b ∷ s)))) j 0 < none) →
+    go : (m : Begin) → Begins (b ∷ s) m → (i : ℕ) →
+        ((k j : ℕ) → getD (values (codeFrom f (p + k) (drop k (b ∷ s)))) j 0 < none) →
         getD (values (itemOr p m (λ k. codeFrom f (p + k) (drop k (b ∷ s))))) i 0 < none
     go (number v k) g zero rest = g .0
     go (number v k) g (suc i) rest = rest k i
@@ -50,7 +52,8 @@ unfolding readingOf
 holding-set {T} {I} {v} {d} small h k b = rw (h .values k b) (small _)
 
 -- In every state after the first read, of the recorded run and of the endless run alike.
-pub never-unset : (room : ℕ) (table inputs : List ℕ) → Accepted room table inputs → Bytes inputs → {taking : ℕ → ℕ} {state : ℕ → Machine} → RunOf (numbersIn table) (numbersIn inputs) taking state →
+pub never-unset : (room : ℕ) (table inputs : List ℕ) → Accepted room table inputs → Bytes inputs →
+    {taking : ℕ → ℕ} {state : ℕ → Machine} → RunOf (numbersIn table) (numbersIn inputs) taking state →
     (j : ℕ) → 1 ≤ j → InputsSet (numbersIn table) (state j .state .variables)
 never-unset room table inputs ok bytes r j h =
     let (t, same, allowed, _, _) = accepted-is-allowed mostProcesses (omega arith) (codeAt table 0) (ok .table-numbers) (ok .table-read) in
@@ -70,7 +73,8 @@ at-start {start = start} h e = go (decLt 0 start)
     go (no l) = omega arith
 
 -- With an input variable, a run whose return scan is 0 never closes.
-pub never-from-start : (room : ℕ) (table inputs : List ℕ) → Bytes inputs → 1 ≤ inputsOf (numbersIn table) → returnOf (numbersIn inputs) ≡ 0 →
+pub never-from-start : (room : ℕ) (table inputs : List ℕ) → Bytes inputs → 1 ≤ inputsOf (numbersIn table) →
+    returnOf (numbersIn inputs) ≡ 0 →
     (n start : ℕ) → ¬ (runOf room table inputs ≡ Closed n start)
 never-from-start room table inputs bytes some back n start e =
     let T = numbersIn table in

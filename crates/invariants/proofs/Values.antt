@@ -1,9 +1,10 @@
--- What the read, the write and an action of the table make of the variables: the read gives the inputs what is recorded, and nothing else touches them.
+-- What the read, the write and an action of the table make of the variables: the read gives the inputs what is
+-- recorded, and nothing else touches them.
 -- Assumes nothing.
 use Prim.Native.Nat.{ℕ, zero, suc, _+_, _<_, _≤_}
 use native.Mathlib.Omega.{arith}
 use native.Mathlib.Nat.{eq-or-lt-of-le}
-use mathlib.Core.Path.{_≡_, refl, sym, _∙_}
+use mathlib.Core.Path.{_≡_, refl, _∙_}
 use mathlib.Core.Logic.{⊎-elim}
 use mathlib.Core.List.{List}
 use lib.ListN.{length, set, length-set}
@@ -16,7 +17,8 @@ use Rattle.controller.specs.Rules.{newValue}
 use Rattle.controller.specs.declared.Process.{Process}
 use Rattle.controller.specs.declared.Controller.{Controller}
 use Rattle.controller.specs.declared.Action.{Action}
-use Rattle.controller.specs.declared.Action.the-variants.{Skip, End, Updates, Tout, Reset, StartP, StopP, Start, Set, Next, Stop, Err}
+use Rattle.controller.specs.declared.Action.the-variants.{Skip, End, Updates, Tout, Reset, StartP, StopP, Start, Set}
+use Rattle.controller.specs.declared.Action.the-variants.{Next, Stop, Err}
 use Rattle.scan.specs.Scanning.{taken, written}
 use Rattle.run.specs.Moves.{stepOf}
 use Rattle.invariants.specs.Text.{rowFor, testFor}
@@ -55,11 +57,13 @@ module _ (I : List ℕ) (inputs done : ℕ) where
   taken-below (suc n) k x v h =
       taken-below n (k + 1) x (set v k (readingOf I inputs done k)) (omega arith) ∙ stored-above k k (readingOf I inputs done k) v (omega arith) .same x h
 
-  stored-there : (k : ℕ) (v : List ℕ) → k < length v → valueAt (set v k (readingOf I inputs done k)) k ≡ readingOf I inputs done k
+  stored-there : (k : ℕ) (v : List ℕ) → k < length v →
+      valueAt (set v k (readingOf I inputs done k)) k ≡ readingOf I inputs done k
   unfolding valueAt
   stored-there k v h = getD-set-same v k (readingOf I inputs done k) none h
 
-  pub taken-there : (n k x : ℕ) (v : List ℕ) → k ≤ x → x < k + n → k + n ≤ length v → valueAt (taken I inputs done n k v) x ≡ readingOf I inputs done x
+  pub taken-there : (n k x : ℕ) (v : List ℕ) → k ≤ x → x < k + n → k + n ≤ length v →
+      valueAt (taken I inputs done n k v) x ≡ readingOf I inputs done x
   unfolding taken
   taken-there zero k x v a b room = absurd (omega arith)
   taken-there (suc n) k x v a b room =
@@ -98,7 +102,8 @@ module _ (t : Table) where
     abbrev p : Process
     p = recordAt (c .processes) i
 
-    put-planned : (x : Plan) → Case t i b (recordAt (c .processes) i) (nextBy (testFor t) c) x → Kept (t .inputs) (c .variables) (put (putOf (x .action)) (c .variables))
+    put-planned : (x : Plan) → Case t i b (recordAt (c .processes) i) (nextBy (testFor t) c) x →
+        Kept (t .inputs) (c .variables) (put (putOf (x .action)) (c .variables))
     unfolding put
     put-planned _ (skipping e) = unchanged
     put-planned _ (ending d e) = unchanged

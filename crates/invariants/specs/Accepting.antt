@@ -1,4 +1,5 @@
--- What a run asks before its scans. Document 01, Numbers of refusal: "A run checks: trace buffer under 20,480 bytes (10), table, inputs, scans."
+-- What a run asks before its scans. Document 01, Numbers of refusal: "A run checks: trace buffer under 20,480 bytes
+-- (10), table, inputs, scans."
 -- Assumes nothing: these are definitions.
 use Prim.Native.Nat.{ℕ, _≤_, _<_}
 use mathlib.Core.Path.{_≡_}

@@ -1,6 +1,7 @@
--- What a process does next, told by the table as it is made up: skip, the end of the body, or an action that the table has for it. No look-up answers what it answers
--- where there is nothing.
--- Assumes nothing: these are definitions. That a step of the run is always such a one is a theorem (proofs/Reached.antt).
+-- What a process does next, told by the table as it is made up: skip, the end of the body, or an action that the table
+-- has for it. No look-up answers what it answers where there is nothing.
+-- Assumes nothing: these are definitions. That a step of the run is always such a one is a theorem
+-- (proofs/Reached.antt).
 use Prim.Native.Nat.{ℕ, _-_, _≤_}
 use mathlib.Core.Path.{_≡_}
 use mathlib.Core.Bool.{Bool, true, false}
@@ -34,10 +35,11 @@ nextBy test c r = pick (guardBy test (c .variables) (statesOf (c .processes)) (r
 abbrev pub codedBy : ActionRow → Action
 codedBy r = actionOf (r .op) (r .x) (r .y)
 
--- What process i makes of the state: by skip in an inactive state; by the end in a state of the table; or by the table's own action, whose guard is 0 or a test that the
--- table has.
+-- What process i makes of the state: by skip in an inactive state; by the end in a state of the table; or by the
+-- table's own action, whose guard is 0 or a test that the table has.
 pub data Due (t : Table) (i : ℕ) (c : Controller) : Acted → Type 0 where
   skips : active (recordAt (c .processes) i .state) ≡ false → Due t i c (actOf i Skip 0 c)
-  ends : OneOf (recordAt (c .processes) i .state) (length (statesFor t i)) → recordAt (c .processes) i .action ≡ bodyEnd → Due t i c (actOf i End 0 c)
+  ends : OneOf (recordAt (c .processes) i .state) (length (statesFor t i)) →
+      recordAt (c .processes) i .action ≡ bodyEnd → Due t i c (actOf i End 0 c)
   acts : (s a : ℕ) → recordAt (c .processes) i .state ≡ s → recordAt (c .processes) i .action ≡ a → There t i s a →
       rowFor t i s a .guard ≤ length (t .tests) → Due t i c (actOf i (codedBy (rowFor t i s a)) (nextBy (testFor t) c (rowFor t i s a)) c)

@@ -10,4 +10,5 @@ use Rattle.run.specs.declared.Machine.{Machine}
 -- So many moves, each of which goes on, lead from a machine to a machine.
 pub data Leads (T I : List ℕ) : ℕ → Machine → Machine → Type 0 where
   there : {m : Machine} → Leads T I 0 m m
-  move : {n : ℕ} {m l : Machine} → recordedMove T I m .going ≡ On → Leads T I n (recordedMove T I m .machine) l → Leads T I (suc n) m l
+  move : {n : ℕ} {m l : Machine} → recordedMove T I m .going ≡ On → Leads T I n (recordedMove T I m .machine) l →
+      Leads T I (suc n) m l

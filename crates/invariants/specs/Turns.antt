@@ -1,6 +1,6 @@
--- The moves of one scan. Document 01, Actions: "Each process passes its turn exactly once a scan, ascending, after at most
--- 64 actions, skip and end counted"; paper 000's read leads from counter 0 to counter 1, and the write from n + 1 to 0.
--- Moves are told by the numbers of the states from which they start; `state` tells the states of a run.
+-- The moves of one scan. Document 01, Actions: "Each process passes its turn exactly once a scan, ascending, after at
+-- most 64 actions, skip and end counted"; paper 000's read leads from counter 0 to counter 1, and the write from n + 1
+-- to 0. Moves are told by the numbers of the states from which they start; `state` tells the states of a run.
 -- Assumes nothing: these are definitions. That every scan of a run is such a one is a theorem (proofs/Turned.antt).
 use Prim.Native.Nat.{ℕ, suc, _+_, _-_, _<_, _≤_}
 use mathlib.Core.Path.{_≡_}
@@ -22,9 +22,9 @@ turnAt state k = state k .state .counter
 abbrev pub outcomeAt : List ℕ → (ℕ → Machine) → ℕ → Outcome
 outcomeAt T state k = stepOf T (turnAt state k) (state k .state) .outcome
 
--- The turn of process p: its actions are the moves from state `from` up to state `to`, which is the first after them. There
--- is one at least and there are at most 64; all keep the turn but the last, which passes it on. The machine counts them
--- from 0.
+-- The turn of process p: its actions are the moves from state `from` up to state `to`, which is the first after them.
+-- There is one at least and there are at most 64; all keep the turn but the last, which passes it on. The machine
+-- counts them from 0.
 pub record Turn (T : List ℕ) (state : ℕ → Machine) (p from to : ℕ) : Type 0 where
   pub some : from < to
   pub few : to ≤ from + longestTurn
@@ -36,7 +36,8 @@ pub record Turn (T : List ℕ) (state : ℕ → Machine) (p from to : ℕ) : Typ
 -- The turns from process p on, one of each process, ascending, one right after the other.
 pub data Turns (T : List ℕ) (state : ℕ → Machine) : ℕ → ℕ → ℕ → Type 0 where
   none-left : {p at : ℕ} → p ≡ processesOf T + 1 → Turns T state p at at
-  turn : {p from next to : ℕ} → p ≤ processesOf T → Turn T state p from next → Turns T state (p + 1) next to → Turns T state p from to
+  turn : {p from next to : ℕ} → p ≤ processesOf T → Turn T state p from next → Turns T state (p + 1) next to →
+      Turns T state p from to
 
 -- The move from state k is a read, and a write.
 pub record Reads (state : ℕ → Machine) (k : ℕ) : Type 0 where
