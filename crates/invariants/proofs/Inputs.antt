@@ -94,7 +94,8 @@ module _ (t : Table) (ok : Allowed mostProcesses t) {I : List ℕ} {taking : ℕ
 
   held-from : (j : ℕ) → (0 < state j .state .counter → Held t ok I taking (state j)) →
       Held t ok I taking (state (suc j))
-  held-from j before = rw (r .next j) (held-next t ok I taking (state j) (fits-always r j) (run-allowed t ok r j) (room-at j) before)
+  held-from j before =
+      rw (r .next j) (held-next t ok I taking (state j) (fits-always r j) (run-allowed t ok r j) (room-at j) before)
 
   reading-first : state 0 .state .counter ≡ 0
   unfolding start
