@@ -1,7 +1,7 @@
 -- Phase and counter fit together in every state of a run, whether or not its moves go on.
 -- Assumes nothing.
 use Prim.Native.Nat.{ℕ, zero, suc}
-use mathlib.Core.Path.{refl}
+use mathlib.Core.Path.{_≡_, refl}
 use mathlib.Core.List.{List}
 use Rattle.controller.specs.State.{start}
 use Rattle.run.specs.Moves.{moveOf}
@@ -25,3 +25,8 @@ unfolding start
 fits-always r zero = rw (r .first) (record { fit = (refl, refl) })
 fits-always {T} {I} {taking} {state} r (suc j) =
     rw (r .next j) (move-fits T I (taking (state j .scan)) (state j) (fits-always r j))
+
+-- "counter 0": the first move is a read.
+pub starts-reading : {T I : List ℕ} {taking : ℕ → ℕ} {state : ℕ → Machine} → RunOf T I taking state → state 0 .state .counter ≡ 0
+unfolding start
+starts-reading r = rw (r .first) refl
