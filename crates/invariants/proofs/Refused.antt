@@ -112,8 +112,8 @@ module _ (T I : List ℕ) where
   arises l most on j b cause (action f) = nothing-against T I 0 j (on j (omega arith) b) cause f
   arises l most on j b _ (long-run e n) = omega arith
 
-  joined : (n l : ℕ) → MovesOn T I 0 n → MovesOn T I n l → MovesOn T I 0 l
-  joined n l on on′ j a b = go (decLt j n)
+  moves-joined : (n l : ℕ) → MovesOn T I 0 n → MovesOn T I n l → MovesOn T I 0 l
+  moves-joined n l on on′ j a b = go (decLt j n)
     where
       go : Dec (j < n) → recordedMove T I (stateAt T I j) .going ≡ On
       go (yes h) = on j a h
@@ -132,7 +132,7 @@ module _ (T I : List ℕ) where
   from-start : (b q n l : ℕ) → b ≤ q → Arrived T I b 0 n → Arrived T I q n l → Arrived T I q 0 l
   from-start b q n l h r s = record {
     from = omega arith;
-    on = joined n l (r .on) (s .on);
+    on = moves-joined n l (r .on) (s .on);
     before = λ j a c. go j c (decLt j n);
     done = s .done;
   }
@@ -145,7 +145,7 @@ module _ (T I : List ℕ) where
       Ends T I (halted cause (r .machine))
   by-stop cause r k n h on s =
       let early = s .early in
-      rw (s .machine) (stopped (r .number) (arises (r .number) (s .last) (joined n (r .number) on (s .on))) (s .stops) (omega arith))
+      rw (s .machine) (stopped (r .number) (arises (r .number) (s .last) (moves-joined n (r .number) on (s .on))) (s .stops) (omega arith))
 
   by-closing : (back last : Reached) → back .machine ≡ stateAt T I (back .number) →
       last .machine ≡ stateAt T I (last .number) →
