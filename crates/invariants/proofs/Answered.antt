@@ -30,7 +30,13 @@ module _ (room : ℕ) (table inputs : List ℕ) where
   by-inputs : (roomy : ltb room traceRoom ≡ false) (n : ℕ) → tableGrammar mostProcesses (codeAt table 0) ≡ Count n →
       (y : Answer) → inputsGrammar (inputsOf (numbersIn table)) (codeAt inputs 0) ≡ y →
       Begun (byInputs (numbersIn table) (numbersIn inputs) y) → Accepted room table inputs
-  by-inputs roomy n f (Count k) g h = record { buffer = ltb-false room traceRoom roomy; table-numbers = n; table-read = f; inputs-numbers = k; inputs-read = g }
+  by-inputs roomy n f (Count k) g h = record {
+    buffer = ltb-false room traceRoom roomy;
+    table-numbers = n;
+    table-read = f;
+    inputs-numbers = k;
+    inputs-read = g;
+  }
   by-inputs roomy n f (NotRead cause place) g h = absurd h
 
   by-table : (roomy : ltb room traceRoom ≡ false) (x : Answer) → tableGrammar mostProcesses (codeAt table 0) ≡ x →
@@ -49,8 +55,13 @@ module _ (room : ℕ) (table inputs : List ℕ) where
   -- The scans of a run are begun just where all before is accepted, and then it answers what its states say.
   pub run-exactly : (r : Ran) → Begun r →
       (runOf room table inputs ≡ r) ↔ (Accepted room table inputs × Ends (numbersIn table) (numbersIn inputs) r)
-  run-exactly r b = (λ e. let a = begun-accepted (rw e b) in (a, exactly a .0 (sym (accepted-runs a) ∙ e)), λ (a, h). accepted-runs a ∙ exactly a .1 h)
+  run-exactly r b = (
+    λ e. let a = begun-accepted (rw e b) in (a, exactly a .0 (sym (accepted-runs a) ∙ e)),
+    λ (a, h). accepted-runs a ∙ exactly a .1 h,
+  )
     where
       exactly : Accepted room table inputs →
           (ranOf (numbersIn table) (numbersIn inputs) ≡ r) ↔ Ends (numbersIn table) (numbersIn inputs) r
-      exactly a = ran-exactly (numbersIn table) (numbersIn inputs) (returns-below (inputsOf (numbersIn table)) (a .inputs-numbers) (codeAt inputs 0) (a .inputs-read)) r
+      exactly a =
+          let below = returns-below (inputsOf (numbersIn table)) (a .inputs-numbers) (codeAt inputs 0) (a .inputs-read) in
+          ran-exactly (numbersIn table) (numbersIn inputs) below r

@@ -47,7 +47,8 @@ module _ (T I : List ℕ) where
   goes-unless j (Stopped cause) h n = absurd (n cause (action h))
 
   moves-on : (l : ℕ) → Arises T I l → MovesOn T I 0 l
-  moves-on l a j _ b = goes-unless j (recordedMove T I (stateAt T I j) .going) (says T (stateAt T I j) I (stateAt T I j .scan)) (a j b)
+  moves-on l a j _ b =
+      goes-unless j (recordedMove T I (stateAt T I j) .going) (says T (stateAt T I j) I (stateAt T I j .scan)) (a j b)
 
   -- A scan is done at an Output.
   output-where : (j : ℕ) (p : Phase) → stateAt T I (suc j) .phase ≡ p →
@@ -59,14 +60,16 @@ module _ (T I : List ℕ) where
   output-after : (k l : ℕ) → AfterScan T I k l → stateAt T I l .phase ≡ Output
   unfolding stateAt
   output-after k zero a = refl
-  output-after k (suc j) a = output-where j (stateAt T I (suc j) .phase) refl (omega (arith, a .sooner j (omega arith), a .done))
+  output-after k (suc j) a =
+      output-where j (stateAt T I (suc j) .phase) refl (omega (arith, a .sooner j (omega arith), a .done))
 
   -- Between the states after two scans in a row there is no other Output.
   none-between : (k l e : ℕ) → AfterScan T I k l → AfterScan T I (k + 1) e → (j : ℕ) → l < j → j < e →
       ¬ (stateAt T I j .phase ≡ Output)
   none-between k l e a b zero h i o = omega arith
   none-between k l e a b (suc j) h i o =
-      omega (arith, output-scan-at (recorded T I) j (moves-on e (b .arises) j (omega arith) (omega arith)) o, scans-rise T I l j (omega arith), a .done, b .sooner (suc j) i)
+      let done = output-scan-at (recorded T I) j (moves-on e (b .arises) j (omega arith) (omega arith)) o in
+      omega (arith, done, scans-rise T I l j (omega arith), a .done, b .sooner (suc j) i)
 
   in-order : (k l e : ℕ) → AfterScan T I k l → AfterScan T I (k + 1) e → l < e
   in-order k l e a b = go (decLt l e)
@@ -78,11 +81,13 @@ module _ (T I : List ℕ) where
   -- ---- of each scan up to one that is done, there is the state after it
   first-with : (k l : ℕ) → k ≤ stateAt T I l .scan → First T I k l
   unfolding stateAt
-  first-with k zero h = record { state = 0; among = omega arith; done = omega arith; sooner = λ j b. absurd (omega arith) }
+  first-with k zero h =
+      record { state = 0; among = omega arith; done = omega arith; sooner = λ j b. absurd (omega arith) }
   first-with k (suc l) h = go (λ e. first-with k l e) (decLt (stateAt T I l .scan) k)
     where
       go : (k ≤ stateAt T I l .scan → First T I k l) → Dec (stateAt T I l .scan < k) → First T I k (suc l)
-      go sooner (no e) = let f = sooner (omega arith) in let b = f .among in record { state = f .state; among = omega arith; done = f .done; sooner = f .sooner }
+      go sooner (no e) =
+          let f = sooner (omega arith) in let b = f .among in record { state = f .state; among = omega arith; done = f .done; sooner = f .sooner }
       go sooner (yes e) = record {
         state = suc l;
         among = omega arith;

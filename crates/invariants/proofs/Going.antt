@@ -80,7 +80,8 @@ module _ (T I : List ℕ) where
 
   pub scans-grow : (i k : ℕ) → stateAt T I i .scan ≤ stateAt T I (k + i) .scan
   scans-grow i zero = let e : 0 + i ≡ i = omega arith in rw e (omega arith)
-  scans-grow i (suc k) = let e : suc k + i ≡ suc (k + i) = omega arith in rw e (omega (arith, scans-grow i k, scan-least (k + i)))
+  scans-grow i (suc k) =
+      let e : suc k + i ≡ suc (k + i) = omega arith in rw e (omega (arith, scans-grow i k, scan-least (k + i)))
 
   -- The later the state, the more scans are done.
   pub scans-rise : (i j : ℕ) → i ≤ j → stateAt T I i .scan ≤ stateAt T I j .scan

@@ -14,7 +14,6 @@ use Rattle.lookups.specs.Places.{inputsOf, outputsOf}
 use Rattle.lookups.specs.Structure.{Table, numbersOf}
 use Rattle.lookups.proofs.Structured.{joined}
 use Rattle.structure.specs.Allowed.{Allowed}
-use Rattle.controller.specs.State.{start}
 use Rattle.controller.specs.declared.Controller.{Controller}
 use Rattle.scan.specs.Scanning.{readOf, writeOf}
 use Rattle.run.specs.Moves.{moveOf}
@@ -25,7 +24,7 @@ use Rattle.invariants.specs.Runs.{RunOf}
 use Rattle.invariants.specs.Reading.{Holding, lastRead}
 use Rattle.invariants.proofs.Sound.{sound}
 use Rattle.invariants.specs.Refusals.{Acts, Forbids, long-turn, no-rule}
-use Rattle.invariants.proofs.Phased.{fits-always}
+use Rattle.invariants.proofs.Phased.{fits-always, starts-reading}
 use Rattle.invariants.proofs.MoveKinds.{stepIn, by-kind}
 use Rattle.invariants.proofs.Reached.{run-allowed, run-sized}
 use Rattle.invariants.proofs.Values.{Kept, taken-there, written-kept, step-inputs}
@@ -94,14 +93,11 @@ module _ (t : Table) (ok : Allowed mostProcesses t) {I : List ℕ} {taking : ℕ
 
   held-from : (j : ℕ) → (0 < state j .state .counter → Held t ok I taking (state j)) →
       Held t ok I taking (state (suc j))
-  held-from j before = rw (r .next j) (held-next t ok I taking (state j) (fits-always r j) (run-allowed t ok r j) (room-at j) before)
-
-  reading-first : state 0 .state .counter ≡ 0
-  unfolding start
-  reading-first = rw (r .first) refl
+  held-from j before =
+      rw (r .next j) (held-next t ok I taking (state j) (fits-always r j) (run-allowed t ok r j) (room-at j) before)
 
   held-at : (j : ℕ) → Held t ok I taking (state (suc j))
-  held-at zero = held-from 0 (λ h. absurd (omega (arith, reading-first)))
+  held-at zero = held-from 0 (λ h. absurd (omega (arith, starts-reading r)))
   held-at (suc j) = held-from (suc j) (λ h. held-at j)
 
   -- State 1 is the one after the first read: from there on the input variables have what is recorded for the scan that

@@ -21,7 +21,7 @@ use Rattle.controller.specs.declared.Action.{Action}
 use Rattle.controller.specs.declared.Action.the-variants.{Skip, End, Updates, Tout, Reset, StartP, StopP, Start, Set}
 use Rattle.controller.specs.declared.Action.the-variants.{Next, Stop, Err}
 use Rattle.scan.specs.Scanning.{readOf, writeOf}
-use Rattle.invariants.specs.Text.{statesFor, actionsFor, rowFor, testFor, There}
+use Rattle.invariants.specs.Text.{statesFor, actionsFor, testFor, rowAt, There}
 use Rattle.invariants.specs.Allows.{RecordAllowed, StateAllowed, RecordAllowed.stopped as is-stopped}
 use Rattle.invariants.specs.Allows.{RecordAllowed.failed, RecordAllowed.active as is-active}
 use Rattle.invariants.proofs.Acting.{Sent, nobody, sends, sentOf, send, ownOf, ofTimer, ofReset, Naming}
@@ -73,7 +73,8 @@ module _ (t : Table) (s : Sound t) where
       own-allowed Skip k f e h = h
       own-allowed End k f e h = is-active d at-one
       own-allowed (Updates x u) k f e h = is-active d e
-      own-allowed (Tout bound) k f e h = timer-allowed (eqb (p .timer) none) (ltb (p .timer) bound) (elapsed (p .timer) bound) k e h
+      own-allowed (Tout bound) k f e h =
+          timer-allowed (eqb (p .timer) none) (ltb (p .timer) bound) (elapsed (p .timer) bound) k e h
       own-allowed Reset k f e h = reset-allowed (eqb (p .timer) none) h
       own-allowed (StartP x) k f e h = is-active d e
       own-allowed (StopP x) k f e h = is-active d e
@@ -84,12 +85,11 @@ module _ (t : Table) (s : Sound t) where
       own-allowed Err k f e h = failed refl
 
     next-allowed : (c : Controller) → There t i (p .state) (p .action) →
-        nextBy (testFor t) c (rowFor t i (p .state) (p .action)) ≤ length (actionsFor t i (p .state))
+        nextBy (testFor t) c (rowAt t i p) ≤ length (actionsFor t i (p .state))
     unfolding nextBy
-    next-allowed c w = go (guardBy (testFor t) (c .variables) _ (rowFor t i (p .state) (p .action) .guard))
+    next-allowed c w = go (guardBy (testFor t) (c .variables) _ (rowAt t i p .guard))
       where
-        go : (x : Bool) →
-            pick x (rowFor t i (p .state) (p .action) .«next_if») (rowFor t i (p .state) (p .action) .«next_else») ≤ length (actionsFor t i (p .state))
+        go : (x : Bool) → pick x (rowAt t i p .«next_if») (rowAt t i p .«next_else») ≤ length (actionsFor t i (p .state))
         go true = s .taken i (p .state) (p .action) w
         go false = s .other i (p .state) (p .action) w
 
@@ -98,7 +98,9 @@ module _ (t : Table) (s : Sound t) where
     unfolding ownOf goes
     own-planned c _ (skipping z) h = h
     own-planned c _ (ending d z) h = is-active d (s .bodies i (p .state) b d)
-    own-planned c _ (acting w) h = own-allowed (w .state) (codedBy (rowFor t i (p .state) (p .action))) (nextBy (testFor t) c (rowFor t i (p .state) (p .action))) (s .fine i (p .state) (p .action) w) (next-allowed c w) h
+    own-planned c _ (acting w) h =
+        let fine = s .fine i (p .state) (p .action) w in
+        own-allowed (w .state) (codedBy (rowAt t i p)) (nextBy (testFor t) c (rowAt t i p)) fine (next-allowed c w) h
 
   -- ---- the record of another process
   abbrev SentAllowed : Sent → Type 0
@@ -107,7 +109,8 @@ module _ (t : Table) (s : Sound t) where
 
   pub first-allowed : (x : ℕ) → OneOf x (length (t .processes)) → RecordAllowed t x (entering 1 1)
   unfolding entering
-  first-allowed x b = let m = s .states x b in let d : OneOf 1 (length (statesFor t x)) = omega arith in is-active d (s .bodies x 1 b d)
+  first-allowed x b =
+      let m = s .states x b in let d : OneOf 1 (length (statesFor t x)) = omega arith in is-active d (s .bodies x 1 b d)
 
   pub stopped-allowed : (x : ℕ) → RecordAllowed t x stopped
   unfolding entering
@@ -122,23 +125,26 @@ module _ (t : Table) (s : Sound t) where
       Case t i b p (nextBy (testFor t) c) x → SentAllowed (sentOf (x .action))
   sent-planned c i b p _ (skipping z) = tt
   sent-planned c i b p _ (ending d z) = tt
-  sent-planned c i b p _ (acting w) = sent-allowed i (p .state) (codedBy (rowFor t i (p .state) (p .action))) (naming (codedBy (rowFor t i (p .state) (p .action)))) (s .fine i (p .state) (p .action) w)
+  sent-planned c i b p _ (acting w) =
+      let a = codedBy (rowAt t i p) in
+      sent-allowed i (p .state) a (naming a) (s .fine i (p .state) (p .action) w)
 
   -- ---- the whole state
-  pub record Fits (ps : List Process) : Type 0 where
-    pub room : length (t .processes) ≤ length ps
-    pub records : (p : ℕ) → OneOf p (length (t .processes)) → RecordAllowed t p (recordAt ps p)
+  record RecordsAllowed (ps : List Process) : Type 0 where
+    room : length (t .processes) ≤ length ps
+    records : (p : ℕ) → OneOf p (length (t .processes)) → RecordAllowed t p (recordAt ps p)
 
-  store-fits : (ps : List Process) (x : ℕ) (r : Process) → Fits ps → OneOf x (length (t .processes)) →
-      RecordAllowed t x r → Fits (withRecord ps x r)
+  store-fits : (ps : List Process) (x : ℕ) (r : Process) → RecordsAllowed ps → OneOf x (length (t .processes)) →
+      RecordAllowed t x r → RecordsAllowed (withRecord ps x r)
   unfolding recordAt withRecord
-  store-fits ps x r h b k = record { room = rw (length-set ps (x - 1) r) (h .room); records = λ p d. go p d (ℕ-discrete p x) }
+  store-fits ps x r h b k =
+      record { room = rw (length-set ps (x - 1) r) (h .room); records = λ p d. go p d (ℕ-discrete p x) }
     where
       go : (p : ℕ) → OneOf p (length (t .processes)) → Dec (p ≡ x) → RecordAllowed t p (recordAt (withRecord ps x r) p)
       go p d (yes e) = let room = h .room in rw (e, getD-set-same ps (x - 1) r (entering 0 0) (omega arith)) k
       go p d (no n) = rw (getD-set-other ps (x - 1) (p - 1) r (entering 0 0) (λ e. n (omega arith))) (h .records p d)
 
-  send-fits : (w : Sent) (ps : List Process) → Fits ps → SentAllowed w → Fits (send w ps)
+  send-fits : (w : Sent) (ps : List Process) → RecordsAllowed ps → SentAllowed w → RecordsAllowed (send w ps)
   unfolding send
   send-fits nobody ps h k = h
   send-fits (sends x r) ps h k = store-fits ps x r h (k .0) (k .1)
@@ -149,7 +155,7 @@ module _ (t : Table) (s : Sound t) where
       let p = recordAt (c .processes) i in
       let x = planBy (inTable t) i c in
       let w = plan-case t i b p (nextBy (testFor t) c) (h .records i b) in
-      let f : Fits (c .processes) = record { room = h .room; records = h .records } in
+      let f : RecordsAllowed (c .processes) = record { room = h .room; records = h .records } in
       let g = store-fits (send (sentOf (x .action)) (c .processes)) i (ownOf (x .action) (x .next) p)
       (send-fits (sentOf (x .action)) (c .processes) f (sent-planned c i b p x w)) b (own-planned i b p c x w (h .records i b)) in
       rw (step-is (inTable t) i c) (record { room = g .room; records = g .records })
@@ -166,7 +172,11 @@ module _ (t : Table) (s : Sound t) where
 
   pub read-kept : (T I : List ℕ) (done : ℕ) (c : Controller) → StateAllowed t c → StateAllowed t (readOf T I done c)
   unfolding readOf
-  read-kept T I done c h = record { room = rw (raised-length (c .processes)) (h .room); records = λ p b. rw (raised-at (c .processes) p) (raised-allowed p (recordAt (c .processes) p) (h .records p b)) }
+  read-kept T I done c h =
+      record {
+        room = rw (raised-length (c .processes)) (h .room);
+        records = λ p b. rw (raised-at (c .processes) p) (raised-allowed p (recordAt (c .processes) p) (h .records p b));
+      }
 
   pub write-kept : (T : List ℕ) (c : Controller) → StateAllowed t c → StateAllowed t (writeOf T c)
   unfolding writeOf

@@ -18,3 +18,4 @@ pub mod Turned
 pub mod Once
 pub mod EachScan
 pub mod Readings
+pub mod Counted

@@ -100,12 +100,20 @@ module _ (T I : List ℕ) (d : ℕ) (m : Machine) where
       by-kind (λ x. x .going ≡ On → Stayed T m (x .machine) ⊎ Passed T m (x .machine)) T I d m
       (λ e. absurd (omega arith))
       (λ e f. absurd (omega arith))
-      (λ b l e g. inl (record { within = l; outcome = e; counter = counter-is (stepIn T m) (m .state .counter) Stays counts e; used = refl; phase = refl }))
+      (λ b l e g. inl
+      (record {
+        within = l;
+        outcome = e;
+        counter = counter-is (stepIn T m) (m .state .counter) Stays counts e;
+        used = refl;
+        phase = refl;
+      }))
       (λ b l e g. inr
       (record {
         within = l;
         outcome = e;
-        counter = counter-is (stepIn T m) (m .state .counter) Passes counts e ∙ up-one (m .state .counter) (omega arith);
+        counter =
+            counter-is (stepIn T m) (m .state .counter) Passes counts e ∙ up-one (m .state .counter) (omega arith);
         used = refl;
         phase = refl;
       }))
@@ -141,7 +149,10 @@ module _ (T I : List ℕ) (d : ℕ) (m : Machine) where
       moveOf T I d m .machine .scan ≡ m .scan + 1
   output-scan =
       by-kind (λ x. x .going ≡ On → x .machine .phase ≡ Output → x .machine .scan ≡ m .scan + 1) T I d m
-      (λ e g o. absurd (input-or-output refl o)) (λ e f g o. refl) (λ a l e g o. absurd (exe-or-output refl o)) (λ a l e g o. absurd (exe-or-output refl o))
+      (λ e g o. absurd (input-or-output refl o))
+      (λ e f g o. refl)
+      (λ a l e g o. absurd (exe-or-output refl o))
+      (λ a l e g o. absurd (exe-or-output refl o))
       (λ cause f g o. absurd (never g))
 
 -- ---- the same of the states of a run

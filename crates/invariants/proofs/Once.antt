@@ -30,7 +30,11 @@ module _ {T : List ℕ} {state : ℕ → Machine} where
 
   -- A turn is passed at its last action and nowhere else.
   at-last : {p from to : ℕ} → Turn T state p from to → (i : ℕ) → from ≤ i → i < to → PassesAt T state p i → i + 1 ≡ to
-  at-last {p} {from} {to} t i a b c = ⊎-elim (λ (e : suc i ≡ to). omega arith) (λ (l : suc i < to). absurd (stays-or-passes (t .keeps i a (omega arith)) (c .passes))) (eq-or-lt-of-le b)
+  at-last {p} {from} {to} t i a b c =
+      ⊎-elim
+      (λ (e : suc i ≡ to). omega arith)
+      (λ (l : suc i < to). absurd (stays-or-passes (t .keeps i a (omega arith)) (c .passes)))
+      (eq-or-lt-of-le b)
 
   once-first : {p from next to : ℕ} → Turn T state p from next → Turns T state (p + 1) next to → Once T state p from to
   once-first {p} {from} {next} {to} t ts =
@@ -39,7 +43,8 @@ module _ {T : List ℕ} {state : ℕ → Machine} where
       record {
         at = next - 1;
         among = (omega arith, omega arith);
-        passes = record { whose = t .whose (next - 1) (omega arith) (omega arith); passes = t .passes (next - 1) (omega arith) };
+        passes =
+            record { whose = t .whose (next - 1) (omega arith) (omega arith); passes = t .passes (next - 1) (omega arith) };
         only = λ i a b c. go i a b c (decLt i next);
       }
     where

@@ -20,7 +20,7 @@ use Rattle.controller.specs.declared.Process.{Process}
 use Rattle.controller.specs.declared.Controller.{Controller}
 use Rattle.controller.specs.declared.Action.the-variants.{Skip, End}
 use Rattle.run.specs.Moves.{active, stepOf}
-use Rattle.invariants.specs.Text.{statesFor, actionsFor, rowFor, testFor, There}
+use Rattle.invariants.specs.Text.{statesFor, actionsFor, rowFor, testFor, rowAt, There}
 use Rattle.invariants.specs.Allows.{RecordAllowed, StateAllowed, RecordAllowed.stopped as is-stopped}
 use Rattle.invariants.specs.Allows.{RecordAllowed.failed, RecordAllowed.active as is-active}
 use Rattle.invariants.specs.Due.{guardBy, nextBy, codedBy, Due, skips, ends, acts}
@@ -51,7 +51,8 @@ module _ (t : Table) (i : ℕ) (b : OneOf i (length (t .processes))) (p : Proces
     skipping : active (p .state) ≡ false → Case next (record { action = Skip; next = 0 })
     ending : OneOf (p .state) (length (statesFor t i)) → p .action ≡ bodyEnd →
         Case next (record { action = End; next = 0 })
-    acting : There t i (p .state) (p .action) → Case next (record { action = codedBy (rowFor t i (p .state) (p .action)); next = next (rowFor t i (p .state) (p .action)) })
+    acting : There t i (p .state) (p .action) →
+        Case next (record { action = codedBy (rowAt t i p); next = next (rowAt t i p) })
 
   pub plan-case : (next : ActionRow → ℕ) → RecordAllowed t i p → Case next (planOf (rowFor t i) next p)
   unfolding planOf
@@ -90,24 +91,27 @@ module _ (t : Table) (s : Sound t) where
       go true true e f = rw (e, f) refl
       go true false e f =
           let w = at-action t i b p k e f in
-          let r = rowFor t i (p .state) (p .action) in
-          rw (e, f, joined t .action i (p .state) (p .action) (w .process) (w .state) (w .action), next-found c r (s .guard i (p .state) (p .action) w)) refl
+          let found = joined t .action i (p .state) (p .action) (w .process) (w .state) (w .action) in
+          rw (e, f, found, next-found c (rowAt t i p) (s .guard i (p .state) (p .action) w)) refl
       go false y e f = rw e refl
 
   -- In a state that the table allows, the run's step by the numbers is the step by the table.
   pub step-found : (i : ℕ) (c : Controller) → OneOf i (length (t .processes)) → StateAllowed t c →
       stepOf (numbersOf t) i c ≡ stepBy (inTable t) i c
   unfolding stepBy
-  step-found i c b h = step-in-numbers (numbersOf t) i c ∙ rw (plan-found i c (recordAt (c .processes) i) b (h .records i b)) refl
+  step-found i c b h =
+      step-in-numbers (numbersOf t) i c ∙ rw (plan-found i c (recordAt (c .processes) i) b (h .records i b)) refl
 
   due-planned : (i : ℕ) (c : Controller) (b : OneOf i (length (t .processes))) (x : Plan) →
       Case t i b (recordAt (c .processes) i) (nextBy (testFor t) c) x → Due t i c (actOf i (x .action) (x .next) c)
   due-planned i c b _ (skipping e) = skips e
   due-planned i c b _ (ending d e) = ends d e
-  due-planned i c b _ (acting w) = acts _ _ refl refl w (s .guard i _ _ w)
+  due-planned i c b _ (acting w) = acts w (s .guard i _ _ w)
 
   -- So what a process does next is skip, the end, or an action of the table.
   pub step-due : (i : ℕ) (c : Controller) → OneOf i (length (t .processes)) → StateAllowed t c →
       Due t i c (stepOf (numbersOf t) i c)
   unfolding stepBy
-  step-due i c b h = rw (step-found i c b h) (due-planned i c b (planBy (inTable t) i c) (plan-case t i b (recordAt (c .processes) i) (nextBy (testFor t) c) (h .records i b)))
+  step-due i c b h =
+      let plan = plan-case t i b (recordAt (c .processes) i) (nextBy (testFor t) c) (h .records i b) in
+      rw (step-found i c b h) (due-planned i c b (planBy (inTable t) i c) plan)

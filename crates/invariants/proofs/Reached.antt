@@ -60,7 +60,8 @@ module _ (t : Table) (s : Sound t) where
 
   step-size : (m : Machine) → Acts (numbersOf t) m → StateAllowed t (m .state) →
       length (stepIn (numbersOf t) m .state .variables) ≡ length (m .state .variables)
-  step-size m a h = let all = joined t .processes in step-inputs t s (m .state .counter) (omega arith) (m .state) h .size
+  step-size m a h =
+      let all = joined t .processes in step-inputs t s (m .state .counter) (omega arith) (m .state) h .size
 
   move-size : (I : List ℕ) (d : ℕ) (m : Machine) → StateAllowed t (m .state) →
       length (moveOf (numbersOf t) I d m .machine .state .variables) ≡ length (m .state .variables)
@@ -84,7 +85,8 @@ module _ (t : Table) (s : Sound t) where
 -- The start, where there is room for the table's processes.
 start-allowed : (n : ℕ) (t : Table) (s : Sound t) → OneOf (length (t .processes)) n → StateAllowed t (start n)
 unfolding start recordAt
-start-allowed n t s b = record { room = let e = length-replicate {A = Process} (n - 1) stopped in omega arith; records = go }
+start-allowed n t s b =
+    record { room = let e = length-replicate {A = Process} (n - 1) stopped in omega arith; records = go }
   where
     go : (p : ℕ) → OneOf p (length (t .processes)) →
         RecordAllowed t p (recordAt (entering 1 1 ∷ replicate (n - 1) stopped) p)
@@ -103,7 +105,8 @@ module _ (t : Table) (h : Allowed mostProcesses t) where
   pub run-allowed : {I : List ℕ} {taking : ℕ → ℕ} {state : ℕ → Machine} → RunOf (numbersOf t) I taking state →
       (j : ℕ) → StateAllowed t (state j .state)
   run-allowed r zero = rw (r .first) first
-  run-allowed {I} {taking} {state} r (suc j) = rw (r .next j) (move-allowed t (sound mostProcesses t h) I (taking (state j .scan)) (state j) (run-allowed r j))
+  run-allowed {I} {taking} {state} r (suc j) =
+      rw (r .next j) (move-allowed t (sound mostProcesses t h) I (taking (state j .scan)) (state j) (run-allowed r j))
 
   pub led-allowed : {I : List ℕ} {n : ℕ} {m : Machine} → Leads (numbersOf t) I n (begun mostProcesses) m →
       StateAllowed t (m .state)

@@ -98,7 +98,8 @@ pub reading-there : (inputs : ℕ) (c : Code) (n : ℕ) → inputsGrammar inputs
     2 + inputs * done + k < length (values c)
 reading-there inputs c n e done k h l =
     let size = inputs-length inputs c n e in
-    let all : suc done * inputs ≤ scansOf (values c) * inputs = mul-le-mul {n₁ = suc done} {m₁ = inputs} {n₂ = scansOf (values c)} {m₂ = inputs} h (omega arith) in
+    let q = scansOf (values c) in
+    let all = mul-le-mul {n₁ = suc done} {m₁ = inputs} {n₂ = q} {m₂ = inputs} h (omega arith) in
     omega (arith, size, all, suc-mul done inputs, mul-comm done inputs)
 
 -- The endless run, too, reads a recorded scan.

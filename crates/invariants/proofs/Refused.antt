@@ -49,7 +49,8 @@ told-stopped T I k n r g cause t e = rw e at t
 module _ (T I : List ℕ) (k : ℕ) where
   stopped-here : (n : ℕ) (cause : Cause) → n ≤ lastState → stateAt T I n .scan < k → Stops T I n cause →
       StoppedAt T I k n cause (stoppedAt cause n (stateAt T I n))
-  stopped-here n cause l e s = record { machine = refl; last = l; on = λ j a b. absurd (omega arith); stops = s; early = e }
+  stopped-here n cause l e s =
+      record { machine = refl; last = l; on = λ j a b. absurd (omega arith); stops = s; early = e }
 
   one-sooner : (n : ℕ) (r : Reached) (g : Going) → recordedMove T I (stateAt T I n) .going ≡ On →
       Told T I k (suc n) r g → Told T I k n r g
@@ -77,7 +78,8 @@ module _ (T I : List ℕ) (k : ℕ) where
   further : (more n : ℕ) → ltb (stateAt T I n .scan) k ≡ true → recordedMove T I (stateAt T I n) .going ≡ On →
       Told T I k (suc n) (From more (suc n)) (From more (suc n) .going) → Told T I k n (From (suc more) n) (From (suc more) n .going)
   unfolding stateAt
-  further more n e f next = rw (goes-on T I k n (stateAt T I n) more e f) (one-sooner n (From more (suc n)) (From more (suc n) .going) f next)
+  further more n e f next =
+      rw (goes-on T I k n (stateAt T I n) more e f) (one-sooner n (From more (suc n)) (From more (suc n) .going) f next)
 
   told : (more n : ℕ) → n + more ≡ lastState → Told T I k n (From more n) (From more n .going)
   told zero n full = go (ltb (stateAt T I n .scan) k) refl
@@ -110,8 +112,8 @@ module _ (T I : List ℕ) where
   arises l most on j b cause (action f) = nothing-against T I 0 j (on j (omega arith) b) cause f
   arises l most on j b _ (long-run e n) = omega arith
 
-  joined : (n l : ℕ) → MovesOn T I 0 n → MovesOn T I n l → MovesOn T I 0 l
-  joined n l on on′ j a b = go (decLt j n)
+  moves-joined : (n l : ℕ) → MovesOn T I 0 n → MovesOn T I n l → MovesOn T I 0 l
+  moves-joined n l on on′ j a b = go (decLt j n)
     where
       go : Dec (j < n) → recordedMove T I (stateAt T I j) .going ≡ On
       go (yes h) = on j a h
@@ -123,13 +125,14 @@ module _ (T I : List ℕ) where
   exactly k (suc j) r = let d = r .done in omega (arith, scan-most T I j, r .before j (omega arith) (omega arith))
 
   after-scan : (k l : ℕ) → l ≤ lastState → Arrived T I k 0 l → AfterScan T I k l
-  after-scan k l most r = record { arises = arises l most (r .on); sooner = λ j b. r .before j (omega arith) b; done = exactly k l r }
+  after-scan k l most r =
+      record { arises = arises l most (r .on); sooner = λ j b. r .before j (omega arith) b; done = exactly k l r }
 
   -- A run to fewer scans, and from there on to more.
   from-start : (b q n l : ℕ) → b ≤ q → Arrived T I b 0 n → Arrived T I q n l → Arrived T I q 0 l
   from-start b q n l h r s = record {
     from = omega arith;
-    on = joined n l (r .on) (s .on);
+    on = moves-joined n l (r .on) (s .on);
     before = λ j a c. go j c (decLt j n);
     done = s .done;
   }
@@ -142,7 +145,7 @@ module _ (T I : List ℕ) where
       Ends T I (halted cause (r .machine))
   by-stop cause r k n h on s =
       let early = s .early in
-      rw (s .machine) (stopped (r .number) (arises (r .number) (s .last) (joined n (r .number) on (s .on))) (s .stops) (omega arith))
+      rw (s .machine) (stopped (r .number) (arises (r .number) (s .last) (moves-joined n (r .number) on (s .on))) (s .stops) (omega arith))
 
   by-closing : (back last : Reached) → back .machine ≡ stateAt T I (back .number) →
       last .machine ≡ stateAt T I (last .number) →
@@ -152,8 +155,10 @@ module _ (T I : List ℕ) where
     where
       go : (x : Bool) → sameState (last .machine .state) (back .machine .state) ≡ x →
           Ends T I (pick x (Closed (last .number) (back .number)) (Halted NotClosed (scansOf I) 0))
-      go true g = closes (back .number) (last .number) b l (rw (e, f) at (same-is-equal (last .machine .state) (back .machine .state) g))
-      go false g = differs (back .number) (last .number) b l (λ h. not-same (equal-is-same (last .machine .state) (back .machine .state) (rw (e, f) h)) g)
+      go true g =
+          closes (back .number) (last .number) b l (rw (e, f) at (same-is-equal (last .machine .state) (back .machine .state) g))
+      go false g =
+          differs (back .number) (last .number) b l (λ h. not-same (equal-is-same (last .machine .state) (back .machine .state) (rw (e, f) h)) g)
         where
           not-same : {x : Bool} → x ≡ true → x ≡ false → ⊥
           not-same p r = let z : _≡_ {A = ℕ} 0 1 = cc in omega arith
@@ -175,7 +180,8 @@ module _ (T I : List ℕ) where
   both-on r e g h = rw (g, h, ranOf) e
 
   onward-told : (r : Reached) (k : ℕ) → r .machine ≡ stateAt T I (r .number) → r .number ≤ lastState →
-      Told T I k (r .number) (reached T I k (lastState - r .number) (r .number) (r .machine)) (reached T I k (lastState - r .number) (r .number) (r .machine) .going)
+      let x = reached T I k (lastState - r .number) (r .number) (r .machine) in
+      Told T I k (r .number) x (x .going)
   onward-told r k e h = rw e (told T I k (lastState - r .number) (r .number) (omega arith))
 
   back-told : Told T I (returnOf I) 0 (toReturn T I) (toReturn T I .going)
@@ -196,14 +202,18 @@ module _ (T I : List ℕ) where
         rw (both-on _ refl g h)
         (by-closing (toReturn T I) (toEnd T I) (c .machine) (d .machine) (after-scan (returnOf I) _ (c .bound) (c .arrived))
         (after-scan (scansOf I) _ (d .bound) (from-start (returnOf I) (scansOf I) _ _ (omega arith) (c .arrived) (d .arrived)))))
-        (λ (cause, h). rw (last-stopped cause g h) (by-stop cause (toEnd T I) (scansOf I) (toReturn T I .number) (omega arith) (c .arrived .on) (told-stopped T I _ _ _ _ cause (end-told c) h)))
+        (λ (cause, h).
+        let s = told-stopped T I _ _ _ _ cause (end-told c) h in
+        rw (last-stopped cause g h) (by-stop cause (toEnd T I) (scansOf I) (toReturn T I .number) (omega arith) (c .arrived .on) s))
         (on-or-stopped (toEnd T I .going))
 
     ends : Ends T I (ranOf T I)
     ends =
         ⊎-elim
         (λ g. by-end g (came-back T I g))
-        (λ (cause, g). rw (back-stopped cause g) (by-stop cause (toReturn T I) (returnOf I) 0 (omega arith) (λ j a b. absurd (omega arith)) (told-stopped T I _ _ _ _ cause back-told g)))
+        (λ (cause, g).
+        let s = told-stopped T I _ _ _ _ cause back-told g in
+        rw (back-stopped cause g) (by-stop cause (toReturn T I) (returnOf I) 0 (omega arith) (λ j a b. absurd (omega arith)) s))
         (on-or-stopped (toReturn T I .going))
 
   -- ---- a run ends in one way only

@@ -28,7 +28,8 @@ each-at : {A : Type 0} (P : ℕ → A → Type 0) (n : ℕ) (l : List A) (k : �
 unfolding Each
 each-at P n [] k d h b = absurd (omega arith)
 each-at P n (x ∷ l) zero d h b = let e : n ≡ n + 0 = omega arith in rw (← e) (h .0)
-each-at P n (x ∷ l) (suc k) d h b = let e : n + suc k ≡ suc n + k = omega arith in rw e (each-at P (suc n) l k d (h .1) (omega arith))
+each-at P n (x ∷ l) (suc k) d h b =
+    let e : n + suc k ≡ suc n + k = omega arith in rw e (each-at P (suc n) l k d (h .1) (omega arith))
 
 -- Counted from 1.
 each-from-one : {A : Type 0} (P : ℕ → A → Type 0) (l : List A) (k : ℕ) (d : A) → Each P 1 l → OneOf k (length l) →
@@ -75,7 +76,8 @@ module _ (t : Table) (p n s m : ℕ) where
   guarded g f = record { guard = g .guard; taken = g .taken; other = g .other; fine = f }
 
   unguarded : {r : ActionRow} → Unguarded r → (n ≡ length (statesFor t p) → Fine t p s (codedBy r)) → RowSound r
-  unguarded g f = record { guard = omega (arith, g .guard); taken = omega (arith, g .taken); other = omega (arith, g .other); fine = f }
+  unguarded g f =
+      record { guard = omega (arith, g .guard); taken = omega (arith, g .taken); other = omega (arith, g .other); fine = f }
 
   row-sound : (r : ActionRow) → ActionAllowed t spot r → RowSound r
   unfolding actionOf
@@ -103,7 +105,8 @@ module _ (most : ℕ) (t : Table) (h : Allowed most t) where
 
   state-allowed : (p s : ℕ) → OneOf p (length (t .processes)) → OneOf s (length (statesFor t p)) →
       StateAllowed t p (length (statesFor t p)) s (actionsFor t p s)
-  state-allowed p s b d = each-from-one (λ q l. StateAllowed t p (length (statesFor t p)) q l) (statesFor t p) s [] (process-allowed p b .1) d
+  state-allowed p s b d =
+      each-from-one (λ q l. StateAllowed t p (length (statesFor t p)) q l) (statesFor t p) s [] (process-allowed p b .1) d
 
   row-at : (p s a : ℕ) → There t p s a →
       RowSound t p (length (statesFor t p)) s (length (actionsFor t p s)) (rowFor t p s a)

@@ -41,13 +41,18 @@ pub record Plan : Type 0 where
   pub action : Action
   pub next : ℕ
 
+-- Of an active process that is at the end of its body or at a row, or of one that is not active.
+abbrev pub choose : Bool → Bool → ActionRow → ℕ → Plan
+choose is-active at-end r next =
+    pick is-active
+    (pick at-end (record { action = End; next = 0 }) (record { action = codedBy r; next = next }))
+    (record { action = Skip; next = 0 })
+
 -- The plan of a process with this record, whose rows are these.
 unfoldable pub planOf : (ℕ → ℕ → ActionRow) → (ActionRow → ℕ) → Process → Plan
 planOf row next p =
-    pick (active (p .state))
-    (pick (eqb (p .action) bodyEnd) (record { action = End; next = 0 })
-    (record { action = codedBy (row (p .state) (p .action)); next = next (row (p .state) (p .action)) }))
-    (record { action = Skip; next = 0 })
+    let r = row (p .state) (p .action) in
+    choose (active (p .state)) (eqb (p .action) bodyEnd) r (next r)
 
 abbrev pub planBy : Look → ℕ → Controller → Plan
 planBy L i c = planOf (L .row i) (nextBy (L .test) c) (recordAt (c .processes) i)
@@ -71,10 +76,12 @@ step-in-numbers T i c = go (active (p .state)) (eqb (p .action) bodyEnd)
     r : ActionRow
     r = rowOf T i (p .state) (p .action)
 
+    k : ℕ
+    k = nextBy (testOf T) c r
+
     go : (b d : Bool) →
-        pick b (pick d (actOf i End 0 c) (actOf i (codedBy r) (nextBy (testOf T) c r) c)) (actOf i Skip 0 c)
-        ≡ actOf i (pick {A = Plan} b (pick d (record { action = End; next = 0 }) (record { action = codedBy r; next = nextBy (testOf T) c r })) (record { action = Skip; next = 0 }) .action)
-        (pick {A = Plan} b (pick d (record { action = End; next = 0 }) (record { action = codedBy r; next = nextBy (testOf T) c r })) (record { action = Skip; next = 0 }) .next) c
+        pick b (pick d (actOf i End 0 c) (actOf i (codedBy r) k c)) (actOf i Skip 0 c)
+        ≡ actOf i (choose b d r k .action) (choose b d r k .next) c
     go true true = refl
     go true false = refl
     go false d = refl

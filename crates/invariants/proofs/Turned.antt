@@ -34,7 +34,14 @@ record Rest (T : List ℕ) (state : ℕ → Machine) (p u from to : ℕ) : Type 
 whole-turn : {T : List ℕ} {state : ℕ → Machine} {p from to : ℕ} → Rest T state p 0 from to → Turn T state p from to
 whole-turn r =
     let few = r .few in
-    record { some = r .some; few = omega arith; whose = r .whose; keeps = r .keeps; passes = r .passes; counted = λ k a b. let c = r .counted k a b in omega arith }
+    record {
+      some = r .some;
+      few = omega arith;
+      whose = r .whose;
+      keeps = r .keeps;
+      passes = r .passes;
+      counted = λ k a b. let c = r .counted k a b in omega arith;
+    }
 
 -- Something of each state from k on, if it is so of k and of each from the next on.
 first-or-later : (P : ℕ → Type 0) (k i : ℕ) → k ≤ i → P k → (suc k ≤ i → P i) → P i
@@ -49,7 +56,8 @@ module _ (T : List ℕ) (state : ℕ → Machine) (p u k : ℕ) (whose : turnAt 
     whose = λ i a b. first-or-later (λ j. turnAt state j ≡ p) k i a whose (λ c. absurd (omega arith));
     keeps = λ i a b. absurd (omega arith);
     passes = λ i a. let q : i ≡ k = omega arith in rw q e;
-    counted = λ i a b. first-or-later (λ j. state j .used ≡ u + (j - k)) k i a (omega arith) (λ c. absurd (omega arith));
+    counted =
+        λ i a b. first-or-later (λ j. state j .used ≡ u + (j - k)) k i a (omega arith) (λ c. absurd (omega arith));
   }
 
   first-stays : (to : ℕ) → outcomeAt T state k ≡ Stays → Rest T state p (u + 1) (suc k) to → Rest T state p u k to
@@ -62,7 +70,8 @@ module _ (T : List ℕ) (state : ℕ → Machine) (p u k : ℕ) (whose : turnAt 
         whose = λ i a b. first-or-later (λ j. turnAt state j ≡ p) k i a whose (λ c. r .whose i c b);
         keeps = λ i a b. first-or-later (λ j. outcomeAt T state j ≡ Stays) k i a e (λ c. r .keeps i c b);
         passes = r .passes;
-        counted = λ i a b. first-or-later (λ j. state j .used ≡ u + (j - k)) k i a (omega arith) (λ c. let x = r .counted i c b in omega arith);
+        counted =
+            λ i a b. first-or-later (λ j. state j .used ≡ u + (j - k)) k i a (omega arith) (λ c. let x = r .counted i c b in omega arith);
       }
 
 -- ---- phases
@@ -80,9 +89,11 @@ at-output Output c u f e = f .0
 -- One state further within the scan.
 within-next : (state : ℕ → Machine) (read k : ℕ) → WithinScan state read k → ¬ (state (suc k) .phase ≡ Output) →
     WithinScan state read (suc k)
-within-next state read k w n j a b = ⊎-elim (λ (e : j ≡ suc k). rw e n) (λ (l : j < suc k). w j a (omega arith)) (eq-or-lt-of-le b)
+within-next state read k w n j a b =
+    ⊎-elim (λ (e : j ≡ suc k). rw e n) (λ (l : j < suc k). w j a (omega arith)) (eq-or-lt-of-le b)
 
-module _ {T I : List ℕ} {taking : ℕ → ℕ} {state : ℕ → Machine} (r : RunOf T I taking state) (some : 1 ≤ processesOf T) (few : processesOf T < 65535) (read : ℕ)
+module _ {T I : List ℕ} {taking : ℕ → ℕ} {state : ℕ → Machine} (r : RunOf T I taking state)
+    (some : 1 ≤ processesOf T) (few : processesOf T < 65535) (read : ℕ)
     (on : (k : ℕ) → read ≤ k → WithinScan state read k → moveAt T I taking state k .going ≡ On) where
   -- ---- a turn, from a state in it on
   record TurnDone (p u k : ℕ) : Type 0 where
@@ -95,13 +106,22 @@ module _ {T I : List ℕ} {taking : ℕ → ℕ} {state : ℕ → Machine} (r : 
   turn-from : (left p u k : ℕ) → u + left ≡ longestTurn → read < k → WithinScan state read k → turnAt state k ≡ p →
       OneOf p (processesOf T) → state k .used ≡ u → TurnDone p u k
   turn-from zero p u k e a w c o v =
-      ⊎-elim (λ (s : Stayed T (state k) (state (suc k))). absurd (omega (arith, s .within))) (λ (s : Passed T (state k) (state (suc k))). absurd (omega (arith, s .within)))
+      ⊎-elim
+      (λ (s : Stayed T (state k) (state (suc k))). absurd (omega (arith, s .within)))
+      (λ (s : Passed T (state k) (state (suc k))). absurd (omega (arith, s .within)))
       (acted-at r k few (rw c o) (on k (omega arith) w))
   turn-from (suc left) p u k e a w c o v =
       ⊎-elim
       (λ (s : Stayed T (state k) (state (suc k))).
-      let r = turn-from left p (u + 1) (suc k) (omega arith) (omega arith) (within-next state read k w (exe-or-output (s .phase))) (s .counter ∙ c) o (omega (arith, s .used)) in
-      record { next = r .next; rest = first-stays T state p u k c v (r .next) (s .outcome) (r .rest); within = r .within; counter = r .counter; used = r .used })
+      let x = within-next state read k w (exe-or-output (s .phase)) in
+      let r = turn-from left p (u + 1) (suc k) (omega arith) (omega arith) x (s .counter ∙ c) o (omega (arith, s .used)) in
+      record {
+        next = r .next;
+        rest = first-stays T state p u k c v (r .next) (s .outcome) (r .rest);
+        within = r .within;
+        counter = r .counter;
+        used = r .used;
+      })
       (λ (s : Passed T (state k) (state (suc k))).
       record {
         next = suc k;
@@ -122,11 +142,18 @@ module _ {T I : List ℕ} {taking : ℕ → ℕ} {state : ℕ → Machine} (r : 
 
   one-more : (p k : ℕ) → p ≤ processesOf T → (r : TurnDone p 0 k) → TurnsDone (p + 1) (r .next) → TurnsDone p k
   one-more p k h r s =
-      record { write = s .write; turns = turn {p = p} {to = s .write} h (whole-turn (r .rest)) (s .turns); after = s .after; within = s .within; counter = s .counter }
+      record {
+        write = s .write;
+        turns = turn {p = p} {to = s .write} h (whole-turn (r .rest)) (s .turns);
+        after = s .after;
+        within = s .within;
+        counter = s .counter;
+      }
 
   turns-from : (left p k : ℕ) → p + left ≡ processesOf T + 1 → 1 ≤ p → read < k → WithinScan state read k →
       turnAt state k ≡ p → state k .used ≡ 0 → TurnsDone p k
-  turns-from zero p k e o a w c v = record { write = k; turns = none-left {p = p} (omega arith); after = a; within = w; counter = omega arith }
+  turns-from zero p k e o a w c v =
+      record { write = k; turns = none-left {p = p} (omega arith); after = a; within = w; counter = omega arith }
   turns-from (suc left) p k e o a w c v =
       let r = turn-from longestTurn p 0 k (omega arith) a w c (o, omega arith) v in
       let one = r .rest .some in
@@ -140,7 +167,8 @@ module _ {T I : List ℕ} {taking : ℕ → ℕ} {state : ℕ → Machine} (r : 
       rw e (same-scan-at r (read + d) (w (suc (read + d)) (omega arith) (omega arith)) ∙ same-along d (λ j a b. w j a (omega arith)))
 
   same-scan : (k : ℕ) → read ≤ k → WithinScan state read k → state k .scan ≡ state read .scan
-  same-scan k a w = let e : read + (k - read) ≡ k = omega arith in rw e at (same-along (k - read) (λ j b c. w j b (omega arith)))
+  same-scan k a w =
+      let e : read + (k - read) ≡ k = omega arith in rw e at (same-along (k - read) (λ j b c. w j b (omega arith)))
 
   -- From a state that is just after a write, or the start: if the moves go on as long as no other such state has come,
   -- they are a scan.
@@ -192,4 +220,5 @@ between-outputs {T} {I} {taking} {state} r some few read end l on out last betwe
     there : (write : ℕ) → ScanOf T state read write → Dec (write < end) → Dec (suc write < end) → end ≡ suc write
     there write s (no h) d = absurd (s .within end l (omega arith) last)
     there write s (yes h) (no d) = omega arith
-    there write s (yes h) (yes d) = absurd (between (suc write) (omega (arith, turns-ordered (s .turns))) d (s .writes .phase-after))
+    there write s (yes h) (yes d) =
+        absurd (between (suc write) (omega (arith, turns-ordered (s .turns))) d (s .writes .phase-after))

@@ -82,6 +82,7 @@ never-from-start room table inputs bytes some back n start e =
     let h = ended room n start table inputs e in
     let zero = at-start h back in
     let ok = run-exactly room table inputs (Closed n start) tt .0 e .0 in
-    let set : valueAt (stateAt T I n .state .variables) 0 < none = never-unset room table inputs ok bytes (recorded T I) n (omega (arith, start-below h)) 0 some in
+    let later : 1 ≤ n = omega (arith, start-below h) in
+    let set = never-unset room table inputs ok bytes (recorded T I) n later 0 some in
     let same : stateAt T I n .state ≡ stateAt T I 0 .state = rw zero at (h .same) in
     omega (arith, set, ap (λ (c : Controller). valueAt (c .variables) 0) same, starts-unset T I)

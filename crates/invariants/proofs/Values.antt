@@ -21,7 +21,7 @@ use Rattle.controller.specs.declared.Action.the-variants.{Skip, End, Updates, T
 use Rattle.controller.specs.declared.Action.the-variants.{Next, Stop, Err}
 use Rattle.scan.specs.Scanning.{taken, written}
 use Rattle.run.specs.Moves.{stepOf}
-use Rattle.invariants.specs.Text.{rowFor, testFor}
+use Rattle.invariants.specs.Text.{testFor, rowAt}
 use Rattle.invariants.specs.Due.{nextBy, codedBy}
 use Rattle.invariants.specs.Allows.{StateAllowed}
 use Rattle.invariants.proofs.Acting.{putOf, put}
@@ -42,20 +42,23 @@ and-then a b = record { size = b .size ∙ a .size; same = λ k h. b .same k h �
 
 stored-above : (n x d : ℕ) (v : List ℕ) → n ≤ x → Kept n v (set v x d)
 unfolding valueAt
-stored-above n x d v h = record { size = length-set v x d; same = λ k b. getD-set-other v x k d none (λ e. omega arith) }
+stored-above n x d v h =
+    record { size = length-set v x d; same = λ k b. getD-set-other v x k d none (λ e. omega arith) }
 
 -- ---- the read
 module _ (I : List ℕ) (inputs done : ℕ) where
   pub taken-size : (n k : ℕ) (v : List ℕ) → length (taken I inputs done n k v) ≡ length v
   unfolding taken
   taken-size zero k v = refl
-  taken-size (suc n) k v = taken-size n (k + 1) (set v k (readingOf I inputs done k)) ∙ length-set v k (readingOf I inputs done k)
+  taken-size (suc n) k v =
+      taken-size n (k + 1) (set v k (readingOf I inputs done k)) ∙ length-set v k (readingOf I inputs done k)
 
   taken-below : (n k x : ℕ) (v : List ℕ) → x < k → valueAt (taken I inputs done n k v) x ≡ valueAt v x
   unfolding taken
   taken-below zero k x v h = refl
   taken-below (suc n) k x v h =
-      taken-below n (k + 1) x (set v k (readingOf I inputs done k)) (omega arith) ∙ stored-above k k (readingOf I inputs done k) v (omega arith) .same x h
+      taken-below n (k + 1) x (set v k (readingOf I inputs done k)) (omega arith)
+      ∙ stored-above k k (readingOf I inputs done k) v (omega arith) .same x h
 
   stored-there : (k : ℕ) (v : List ℕ) → k < length v →
       valueAt (set v k (readingOf I inputs done k)) k ≡ readingOf I inputs done k
@@ -107,7 +110,8 @@ module _ (t : Table) where
     unfolding put
     put-planned _ (skipping e) = unchanged
     put-planned _ (ending d e) = unchanged
-    put-planned _ (acting w) = put-kept i (p .state) (codedBy (rowFor t i (p .state) (p .action))) (c .variables) (s .fine i (p .state) (p .action) w)
+    put-planned _ (acting w) =
+        put-kept i (p .state) (codedBy (rowAt t i p)) (c .variables) (s .fine i (p .state) (p .action) w)
 
     -- "x is internal"
     pub step-inputs : StateAllowed t c → Kept (t .inputs) (c .variables) (stepOf (numbersOf t) i c .state .variables)

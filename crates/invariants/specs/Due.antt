@@ -17,29 +17,35 @@ use Rattle.controller.specs.Actions.{actionOf}
 use Rattle.controller.specs.State.{bodyEnd, statesOf, stateAt, valueAt, recordAt}
 use Rattle.controller.specs.Tests.{truth}
 use Rattle.controller.specs.Rules.{actOf}
+use Rattle.controller.specs.declared.Process.{Process}
 use Rattle.controller.specs.declared.Controller.{Controller}
 use Rattle.controller.specs.declared.Acted.{Acted}
 use Rattle.controller.specs.declared.Action.{Action}
 use Rattle.controller.specs.declared.Action.the-variants.{Skip, End}
 use Rattle.run.specs.Moves.{active}
-use Rattle.invariants.specs.Text.{statesFor, rowFor, testFor, There}
+use Rattle.invariants.specs.Text.{statesFor, testFor, rowAt, There}
 
 -- A guard and the choice of the next action, by whatever tells test k.
 unfoldable pub guardBy : (ℕ → TestRow) → List ℕ → List ℕ → ℕ → Bool
-guardBy test v f g = pick (eqb g 0) true (truth (test (g - 1) .kind) (test (g - 1) .b) (valueAt v (test (g - 1) .a)) (stateAt f (test (g - 1) .a)))
+guardBy test v f g =
+    let r = test (g - 1) in
+    pick (eqb g 0) true (truth (r .kind) (r .b) (valueAt v (r .a)) (stateAt f (r .a)))
 
 unfoldable pub nextBy : (ℕ → TestRow) → Controller → ActionRow → ℕ
-nextBy test c r = pick (guardBy test (c .variables) (statesOf (c .processes)) (r .guard)) (r .«next_if») (r .«next_else»)
+nextBy test c r =
+    pick (guardBy test (c .variables) (statesOf (c .processes)) (r .guard)) (r .«next_if») (r .«next_else»)
 
 -- The action that a row codes.
 abbrev pub codedBy : ActionRow → Action
 codedBy r = actionOf (r .op) (r .x) (r .y)
 
--- What process i makes of the state: by skip in an inactive state; by the end in a state of the table; or by the
--- table's own action, whose guard is 0 or a test that the table has.
-pub data Due (t : Table) (i : ℕ) (c : Controller) : Acted → Type 0 where
-  skips : active (recordAt (c .processes) i .state) ≡ false → Due t i c (actOf i Skip 0 c)
-  ends : OneOf (recordAt (c .processes) i .state) (length (statesFor t i)) →
-      recordAt (c .processes) i .action ≡ bodyEnd → Due t i c (actOf i End 0 c)
-  acts : (s a : ℕ) → recordAt (c .processes) i .state ≡ s → recordAt (c .processes) i .action ≡ a → There t i s a →
-      rowFor t i s a .guard ≤ length (t .tests) → Due t i c (actOf i (codedBy (rowFor t i s a)) (nextBy (testFor t) c (rowFor t i s a)) c)
+-- What process i, with the record r, makes of the state c: by skip in an inactive state; by the end in a state of the
+-- table; or by the table's own action, whose guard is 0 or a test that the table has.
+pub data DueBy (t : Table) (i : ℕ) (r : Process) (c : Controller) : Acted → Type 0 where
+  skips : active (r .state) ≡ false → DueBy t i r c (actOf i Skip 0 c)
+  ends : OneOf (r .state) (length (statesFor t i)) → r .action ≡ bodyEnd → DueBy t i r c (actOf i End 0 c)
+  acts : There t i (r .state) (r .action) → rowAt t i r .guard ≤ length (t .tests) →
+      DueBy t i r c (actOf i (codedBy (rowAt t i r)) (nextBy (testFor t) c (rowAt t i r)) c)
+
+abbrev pub Due : Table → ℕ → Controller → Acted → Type 0
+Due t i c x = DueBy t i (recordAt (c .processes) i) c x

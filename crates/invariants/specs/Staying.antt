@@ -24,4 +24,5 @@ pub record Inside (t : Table) (T : List ℕ) (m : Machine) : Type 0 where
 
 -- Every state of every run of the numbers T.
 abbrev pub Stays : Table → List ℕ → Type 0
-Stays t T = (I : List ℕ) (taking : ℕ → ℕ) (state : ℕ → Machine) → RunOf T I taking state → (j : ℕ) → Inside t T (state j)
+Stays t T =
+    (I : List ℕ) (taking : ℕ → ℕ) (state : ℕ → Machine) → RunOf T I taking state → (j : ℕ) → Inside t T (state j)

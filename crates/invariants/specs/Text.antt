@@ -8,6 +8,7 @@ use Rattle.lookups.specs.Structure.{Table}
 use Rattle.lookups.specs.declared.TestRow.{TestRow}
 use Rattle.lookups.specs.declared.ActionRow.{ActionRow}
 use Rattle.structure.specs.Allowed.{OneOf}
+use Rattle.controller.specs.declared.Process.{Process}
 
 -- The states of process p, the actions of its state s, and its action a there; each from 1.
 abbrev pub statesFor : Table → ℕ → List (List ActionRow)
@@ -22,6 +23,10 @@ rowFor t p s a = getD (actionsFor t p s) (a - 1) noAction
 -- "Guard 0 is always true, guard k+1 is test k": test k, from 0.
 abbrev pub testFor : Table → ℕ → TestRow
 testFor t k = getD (t .tests) k (record { kind = 0; a = 0; b = 0 })
+
+-- The action at which process p is, by its record.
+abbrev pub rowAt : Table → ℕ → Process → ActionRow
+rowAt t p r = rowFor t p (r .state) (r .action)
 
 -- Process p of the table has state s, and that has action a.
 pub record There (t : Table) (p s a : ℕ) : Type 0 where

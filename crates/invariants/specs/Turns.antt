@@ -85,3 +85,14 @@ pub record Once (T : List ℕ) (state : ℕ → Machine) (p from to : ℕ) : Typ
   pub among : (from ≤ at) × (at < to)
   pub passes : PassesAt T state p at
   pub only : (k : ℕ) → from ≤ k → k < to → PassesAt T state p k → k ≡ at
+
+-- What the machine counts at a state whose next move is an action: the actions of that process since its turn began, which
+-- all kept the turn. The move before was the read, or the last action of the process before.
+pub record DoneSoFar (T : List ℕ) (state : ℕ → Machine) (k : ℕ) : Type 0 where
+  pub from : ℕ
+  pub count : from + state k .used ≡ k
+  pub few : state k .used ≤ longestTurn
+  pub whose : (j : ℕ) → from ≤ j → j ≤ k → turnAt state j ≡ turnAt state k
+  pub keeps : (j : ℕ) → from ≤ j → j < k → outcomeAt T state j ≡ Stays
+  pub before : ℕ
+  pub begins : (suc before ≡ from) × (turnAt state before + 1 ≡ turnAt state k)
