@@ -29,6 +29,13 @@ first-more : (xs : List ℕ) (c : ℕ) → 1 ≤ length xs → getD (xs ++ (c �
 first-more [] c h = absurd (omega arith)
 first-more (x ∷ xs) c h = refl
 
+-- the one digit '0' denotes 0
+zero-alone : (xs : List ℕ) → length xs ≡ 1 → getD xs 0 0 ≡ 48 → denoted xs ≡ 0
+unfolding denotedFrom
+zero-alone [] l e = absurd (omega arith)
+zero-alone (x ∷ []) l e = omega arith
+zero-alone (x ∷ (y ∷ xs)) l e = absurd (omega arith)
+
 module _ (n : ℕ) where
   one-digit : n < 10 → Spells n ((48 + n) ∷ [])
   unfolding denotedFrom DigitsOnly
@@ -37,7 +44,7 @@ module _ (n : ℕ) where
         digits-only = ((omega arith, omega arith), tt);
         some = omega arith;
         denotes = omega arith;
-        no-zero-first = λ e. omega (arith, e);
+        no-zero-first = λ e. refl;
       }
 
   more-digits : (xs : List ℕ) → 10 ≤ n → Spells (n / 10) xs → Spells n (xs ++ ((48 + n % 10) ∷ []))
@@ -45,7 +52,9 @@ module _ (n : ℕ) where
     digits-only = only-more xs (48 + n % 10) (s .digits-only) (omega arith) (omega arith);
     some = rw length-append (omega (arith, s .some));
     denotes = rw (denoted-more 0 xs (48 + n % 10), s .denotes) (omega arith);
-    no-zero-first = λ e. omega (arith, s .no-zero-first (sym (first-more xs (48 + n % 10) (s .some)) ∙ e));
+    no-zero-first = λ e.
+        let first : getD xs 0 0 ≡ 48 = sym (first-more xs (48 + n % 10) (s .some)) ∙ e in
+        absurd (omega (arith, zero-alone xs (s .no-zero-first first) first, s .denotes));
   }
 
 -- ---- a number that so many digits are enough for

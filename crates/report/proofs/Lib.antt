@@ -6,6 +6,7 @@ pub mod Few
 pub mod Answering
 pub mod Enough
 pub mod Printed
+pub mod Never
 pub mod MadeUp
 pub mod Unique
 pub mod Front

@@ -19,10 +19,10 @@ unfoldable pub DigitsOnly : List ℕ → Type 0
 DigitsOnly [] = Unit {0}
 DigitsOnly (c ∷ cs) = ((48 ≤ c) × (c ≤ 57)) × DigitsOnly cs
 
--- The text is a number as one writes it: digits, at least one, that denote it, and no '0' in front but for the number 0
--- itself.
+-- The text is a number as one writes it: digits, at least one, that denote it, and no '0' in front unless that is the
+-- one digit.
 pub record Spells (n : ℕ) (text : List ℕ) : Type 0 where
   pub digits-only : DigitsOnly text
   pub some : 1 ≤ length text
   pub denotes : denoted text ≡ n
-  pub no-zero-first : getD text 0 0 ≡ 48 → n ≡ 0
+  pub no-zero-first : getD text 0 0 ≡ 48 → length text ≡ 1
