@@ -7,11 +7,14 @@ use native.Mathlib.Omega.{arith}
 use Rattle.coding.specs.Number.{numberAt}
 use Rattle.coding.specs.Code.{codeAt}
 use Rattle.coding.specs.declared.Cause.the-variants.{NoRule, LongTurn, NotClosed}
-use Rattle.ranges.specs.Values.{within, totalOk, isInternal, isVariable, testAOk, opOk, xOk, yOk, usesNexts, guardOk, usesElse, nextOk}
+use Rattle.ranges.specs.Values.{within, totalOk, isInternal, isVariable, testAOk, opOk, xOk, yOk, usesNexts, guardOk}
+use Rattle.ranges.specs.Values.{usesElse, nextOk}
 use Rattle.ranges.specs.Order.{allowed, atSources, afterSource, atTests, afterTest, afterAction}
 use Rattle.table.specs.Table.{check, countsFrom, stateOk, testsFrom, tableGrammar, inputsGrammar}
-use Rattle.lookups.specs.Places.{sourceOf, testOf, afterStates, afterProcesses, processPlace, statePlace, rowFrom, actionFrom, actionOf as rowOf, readingOf}
-use Rattle.controller.specs.State.{up, goes, timed, entering, valueAt, statesOf, stateAt, recordAt, withRecord, start, raised, allRaised}
+use Rattle.lookups.specs.Places.{sourceOf, testOf, afterStates, afterProcesses, processPlace, statePlace, rowFrom}
+use Rattle.lookups.specs.Places.{actionFrom, actionOf as rowOf, readingOf}
+use Rattle.controller.specs.State.{up, goes, timed, entering, valueAt, statesOf, stateAt, recordAt, withRecord, start}
+use Rattle.controller.specs.State.{raised, allRaised}
 use Rattle.controller.specs.Rules.{updated, elapsed, waited, restarted, actOf}
 use Rattle.controller.specs.Actions.{actionOf}
 use Rattle.controller.specs.Tests.{compares, truth}

@@ -114,7 +114,8 @@ module _ (t : Table) where
         put-kept i (p .state) (codedBy (rowAt t i p)) (c .variables) (s .fine i (p .state) (p .action) w)
 
     -- "x is internal"
-    pub step-inputs : StateAllowed t c → Untouched (t .inputs) (c .variables) (stepOf (numbersOf t) i c .state .variables)
+    pub step-inputs : StateAllowed t c →
+        Untouched (t .inputs) (c .variables) (stepOf (numbersOf t) i c .state .variables)
     step-inputs h =
         rw (step-found t s i c b h, step-is (inTable t) i c)
         (put-planned (planBy (inTable t) i c) (plan-case t i b (recordAt (c .processes) i) (nextBy (testFor t) c) (h .records i b)))

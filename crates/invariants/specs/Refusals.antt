@@ -67,8 +67,8 @@ pub record DiffersBy (T I : List ℕ) (cause : Cause) (scan process : ℕ) : Typ
   pub scan-is : scan ≡ scansOf I
   pub process-is : process ≡ 0
 
--- "The last state is then dropped and its predecessor is followed by the state that ended scan b": the positions are the
--- states before the one after scan q, and the loop starts at the one after scan b.
+-- "The last state is then dropped and its predecessor is followed by the state that ended scan b": the positions are
+-- the states before the one after scan q, and the loop starts at the one after scan b.
 pub record ClosesBy (T I : List ℕ) (n start : ℕ) : Type 0 where
   pub after-b : AfterScan T I (returnOf I) start
   pub after-q : AfterScan T I (scansOf I) n
