@@ -1,4 +1,5 @@
--- The actions used in a turn, as a machine counts them, are the actions since the turn began. So a 65th, which is refusal 6, is the 65th of the turn.
+-- The actions used in a turn, as a machine counts them, are the actions since the turn began. So a 65th, which is
+-- refusal 6, is the 65th of the turn.
 -- Assumes nothing.
 use Prim.Native.Nat.{ℕ, zero, suc, _+_, _<_}
 use native.Mathlib.Omega.{arith}
@@ -18,7 +19,8 @@ use Rattle.invariants.proofs.NextState.{Stayed, Passed, acted-at, read-
 
 module _ {T I : List ℕ} {taking : ℕ → ℕ} {state : ℕ → Machine} (r : RunOf T I taking state) (few : processesOf T < 65535) where
   -- A turn that begins at the next state, and one action more of a turn.
-  begins-next : (k : ℕ) → turnAt state (suc k) ≡ turnAt state k + 1 → state (suc k) .used ≡ 0 → DoneSoFar T state (suc k)
+  begins-next : (k : ℕ) → turnAt state (suc k) ≡ turnAt state k + 1 → state (suc k) .used ≡ 0 →
+      DoneSoFar T state (suc k)
   begins-next k e u = record {
     from = suc k;
     count = omega arith;
@@ -59,6 +61,7 @@ module _ {T I : List ℕ} {taking : ℕ → ℕ} {state : ℕ → Machine} (r : 
           (acted-at r k few (omega arith) on)
 
   -- At every state to which the moves go on.
-  pub counted : (k : ℕ) → ((j : ℕ) → j < k → moveAt T I taking state j .going ≡ On) → Acts T (state k) → DoneSoFar T state k
+  pub counted : (k : ℕ) → ((j : ℕ) → j < k → moveAt T I taking state j .going ≡ On) → Acts T (state k) →
+      DoneSoFar T state k
   counted zero on a = absurd (omega (arith, starts-reading r))
   counted (suc k) on a = next-counted k a (on k (omega arith)) (λ b. counted k (λ j l. on j (omega arith)) b)

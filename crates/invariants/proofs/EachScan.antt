@@ -78,7 +78,7 @@ module _ (T I : List ℕ) where
       go (yes h) = h
       go (no h) = absurd (omega (arith, scans-rise T I e l (omega arith), a .done, b .done))
 
-  -- ---- of each scan up to one that is done, there is the state after it
+  -- ---- of each scan that is done there is the state after it
   first-with : (k l : ℕ) → k ≤ stateAt T I l .scan → First T I k l
   unfolding stateAt
   first-with k zero h =
@@ -95,11 +95,11 @@ module _ (T I : List ℕ) where
         sooner = λ j b. omega (arith, scans-rise T I j l (omega arith));
       }
 
-  found : (q l : ℕ) → AfterScan T I q l → (k : ℕ) → k ≤ q → (i : ℕ) × AfterScan T I k i
-  found q l a k h =
-      let f = first-with k l (omega (arith, a .done)) in
+  found : (l : ℕ) → Arises T I l → (k : ℕ) → k ≤ stateAt T I l .scan → (i : ℕ) × AfterScan T I k i
+  found l a k h =
+      let f = first-with k l h in
       let b = f .among in
-      (f .state, record { arises = λ j e. a .arises j (omega arith); sooner = f .sooner; done = f .done })
+      (f .state, record { arises = λ j e. a j (omega arith); sooner = f .sooner; done = f .done })
 
   module _ (some : 1 ≤ processesOf T) (few : processesOf T < 65535) where
     next-scan : (k l e : ℕ) → AfterScan T I k l → AfterScan T I (k + 1) e → Scanned T I k
@@ -108,25 +108,26 @@ module _ (T I : List ℕ) where
         (output-after k l a) (output-after (k + 1) e b) (none-between k l e a b) in
         record { read = l; write = write; begins = a; scan = scan; ends = rw is at b }
 
-    -- Scan k + 1 of a run that has done as many.
-    pub each-scan : (q l : ℕ) → AfterScan T I q l → (k : ℕ) → k < q → Scanned T I k
-    each-scan q l a k h =
-        let (i, b) = found q l a k (omega arith) in
-        let (j, c) = found q l a (k + 1) (omega arith) in
+    -- Scan k + 1, where a state arises at which as many are done.
+    pub each-scan : (l : ℕ) → Arises T I l → (k : ℕ) → k < stateAt T I l .scan → Scanned T I k
+    each-scan l a k h =
+        let (i, b) = found l a k (omega arith) in
+        let (j, c) = found l a (k + 1) (omega arith) in
         next-scan k i j b c
 
--- So in every run of a table that the reader accepts, up to whatever scan is done.
-counted : (c : Code) (n : ℕ) → tableGrammar mostProcesses c ≡ Count n →
+-- "processes (1 to 8)"
+process-count : (c : Code) (n : ℕ) → tableGrammar mostProcesses c ≡ Count n →
     (1 ≤ processesOf (values c)) × (processesOf (values c) < 65535)
-counted c n e =
+process-count c n e =
     let (t, same, ok, _, _) = accepted-is-allowed mostProcesses (omega arith) c n e in
     let count : processesOf (values c) ≡ length (t .processes) = ap processesOf same ∙ joined t .processes in
     let within = ok .process-count in
     (omega arith, omega arith)
 
-pub accepted-scans : (c : Code) (n : ℕ) → tableGrammar mostProcesses c ≡ Count n → (I : List ℕ) (q l : ℕ) →
-    AfterScan (values c) I q l → (k : ℕ) → k < q → Scanned (values c) I k
-accepted-scans c n e I q l a = let (some, few) = counted c n e in each-scan (values c) I some few q l a
+-- So in every run of a table that the reader accepts, whether it closes or is stopped: each scan that is done.
+pub accepted-scans : (c : Code) (n : ℕ) → tableGrammar mostProcesses c ≡ Count n → (I : List ℕ) (l : ℕ) →
+    Arises (values c) I l → (k : ℕ) → k < stateAt (values c) I l .scan → Scanned (values c) I k
+accepted-scans c n e I l a = let (some, few) = process-count c n e in each-scan (values c) I some few l a
 
 -- And in the endless run of a run that closes, from every state that is the start or just after a write.
 pub endless-scans : (room n start : ℕ) (table inputs : List ℕ) → runOf room table inputs ≡ Closed n start →
@@ -135,5 +136,5 @@ pub endless-scans : (room n start : ℕ) (table inputs : List ℕ) → runOf roo
     (read : ℕ) → state read .phase ≡ Output → (write : ℕ) × ScanOf T state read write
 endless-scans room n start table inputs e read out =
     let ok = run-exactly room table inputs (Closed n start) tt .0 e .0 in
-    let (some, few) = counted (codeAt table 0) (ok .table-numbers) (ok .table-read) in
+    let (some, few) = process-count (codeAt table 0) (ok .table-numbers) (ok .table-read) in
     scan-turns (unrolled (numbersIn table) (numbersIn inputs)) some few read (λ k _ _. goes-on room n start table inputs e k) out

@@ -27,7 +27,7 @@ use Rattle.invariants.specs.Refusals.{Acts, Forbids, long-turn, no-rule}
 use Rattle.invariants.proofs.Phased.{fits-always, starts-reading}
 use Rattle.invariants.proofs.MoveKinds.{stepIn, by-kind}
 use Rattle.invariants.proofs.Reached.{run-allowed, run-sized}
-use Rattle.invariants.proofs.Values.{Kept, taken-there, written-kept, step-inputs}
+use Rattle.invariants.proofs.Values.{Untouched, taken-there, written-kept, step-inputs}
 
 -- Where a process or the write is next, the last read was that of the scan under way.
 under-way : (p : Phase) (c u s : ℕ) → Fit p c u → 0 < c → lastRead p s ≡ s
@@ -50,15 +50,15 @@ module _ (t : Table) (ok : Allowed mostProcesses t) (I : List ℕ) (scanRead : �
   abbrev moved : Machine → Machine
   moved m = moveOf T I (scanRead (m .scan)) m .machine
 
-  kept-holding : {d : ℕ} {v w : List ℕ} → Kept (t .inputs) v w → Holding T I d v → Holding T I d w
+  kept-holding : {d : ℕ} {v w : List ℕ} → Untouched (t .inputs) v w → Holding T I d v → Holding T I d w
   kept-holding k h = record { values = λ x b. k .same x (rw (joined t .inputs) at b) ∙ h .values x b }
 
-  written-same : (c : Controller) → Kept (t .inputs) (c .variables) (writeOf T c .variables)
+  written-same : (c : Controller) → Untouched (t .inputs) (c .variables) (writeOf T c .variables)
   unfolding writeOf
   written-same c = rw (joined t .inputs) at (written-kept T (outputsOf T) 0 (c .variables))
 
   step-same : (m : Machine) → StateAllowed t (m .state) → Acts T m →
-      Kept (t .inputs) (m .state .variables) (stepIn T m .state .variables)
+      Untouched (t .inputs) (m .state .variables) (stepIn T m .state .variables)
   step-same m h a =
       let all = joined t .processes in
       step-inputs t (sound mostProcesses t ok) (m .state .counter) (omega arith) (m .state) h

@@ -89,7 +89,8 @@ module _ (t : Table) (s : Sound t) where
     unfolding nextBy
     next-allowed c w = go (guardBy (testFor t) (c .variables) _ (rowAt t i p .guard))
       where
-        go : (x : Bool) → pick x (rowAt t i p .«next_if») (rowAt t i p .«next_else») ≤ length (actionsFor t i (p .state))
+        go : (x : Bool) →
+            pick x (rowAt t i p .«next_if») (rowAt t i p .«next_else») ≤ length (actionsFor t i (p .state))
         go true = s .taken i (p .state) (p .action) w
         go false = s .other i (p .state) (p .action) w
 

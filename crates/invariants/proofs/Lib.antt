@@ -19,3 +19,4 @@ pub mod Once
 pub mod EachScan
 pub mod Readings
 pub mod Counted
+pub mod Examples

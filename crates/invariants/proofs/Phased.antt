@@ -27,6 +27,7 @@ fits-always {T} {I} {taking} {state} r (suc j) =
     rw (r .next j) (move-fits T I (taking (state j .scan)) (state j) (fits-always r j))
 
 -- "counter 0": the first move is a read.
-pub starts-reading : {T I : List ℕ} {taking : ℕ → ℕ} {state : ℕ → Machine} → RunOf T I taking state → state 0 .state .counter ≡ 0
+pub starts-reading : {T I : List ℕ} {taking : ℕ → ℕ} {state : ℕ → Machine} → RunOf T I taking state →
+    state 0 .state .counter ≡ 0
 unfolding start
 starts-reading r = rw (r .first) refl

@@ -2,8 +2,8 @@
 -- same.
 -- Assumes nothing.
 use Prim.Native.Nat.{ℕ, _-_, _≤_}
-use mathlib.Core.Path.{_≡_, refl, sym, _∙_}
-use mathlib.Core.Bool.{Bool, true, false}
+use mathlib.Core.Path.{_≡_, refl, _∙_}
+use mathlib.Core.Bool.{Bool, true, false, false≢true}
 use mathlib.Core.List.{List}
 use native.Mathlib.Omega.{arith}
 use lib.ListN.{length}
@@ -27,16 +27,13 @@ use Rattle.invariants.specs.Due.{guardBy, nextBy, codedBy, Due, skips, e
 use Rattle.invariants.proofs.Stepping.{Plan, inTable, planOf, planBy, stepBy, step-in-numbers}
 use Rattle.invariants.proofs.Sound.{Sound}
 
-pub never : true ≡ false → ⊥
-never e = let z : _≡_ {A = ℕ} 0 1 = cc in omega arith
-
 module _ (t : Table) (i : ℕ) (b : OneOf i (length (t .processes))) (p : Process) where
   -- An active one is in a state of the table.
   pub in-state : RecordAllowed t i p → active (p .state) ≡ true →
       OneOf (p .state) (length (statesFor t i)) × (p .action ≤ length (actionsFor t i (p .state)))
   unfolding active
-  in-state (is-stopped e) f = absurd (never (sym (rw e at f)))
-  in-state (failed e) f = absurd (never (sym (rw e at f)))
+  in-state (is-stopped e) f = absurd (false≢true (rw e at f))
+  in-state (failed e) f = absurd (false≢true (rw e at f))
   in-state (is-active d e) f = (d, e)
 
   -- If it is not at the end of its body, it is at an action of the table.

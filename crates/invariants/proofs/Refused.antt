@@ -5,7 +5,7 @@ use native.Mathlib.Omega.{arith}
 use native.Mathlib.Nat.{eq-or-lt-of-le}
 use native.Mathlib.Decide.{decLt}
 use mathlib.Core.Path.{_≡_, refl}
-use mathlib.Core.Logic.{_↔_, ⊎-elim}
+use mathlib.Core.Logic.{_↔_, inl, inr, ⊎-elim}
 use mathlib.Core.Bool.{Bool, true, false}
 use mathlib.Core.List.{List}
 use lib.Dec.{ltb}
@@ -17,17 +17,17 @@ use Rattle.lookups.specs.Places.{scansOf, returnOf}
 use Rattle.controller.specs.Same.{sameState}
 use Rattle.controller.proofs.Equal.{same-is-equal, equal-is-same}
 use Rattle.run.specs.Limits.{lastState}
-use Rattle.run.specs.Running.{recordedMove, stoppedAt, reached, toReturn, toEnd, turnOf, halted, closing, ranOf}
+use Rattle.run.specs.Running.{recordedMove, stoppedAt, reached, toReturn, toEnd, halted, closing, ranOf}
 use Rattle.run.specs.declared.Going.{Going}
 use Rattle.run.specs.declared.Going.the-variants.{On, Stopped}
 use Rattle.run.specs.declared.Reached.{Reached}
 use Rattle.run.specs.declared.Ran.{Ran}
-use Rattle.run.specs.declared.Ran.the-variants.{Closed, Halted}
+use Rattle.run.specs.declared.Ran.the-variants.{Closed, Halted, Refused}
 use Rattle.endless.specs.Recorded.{stateAt, MovesOn}
 use Rattle.endless.proofs.States.{Arrived, Came, is-here, is-stopped, no-room, goes-on, on-or-stopped}
 use Rattle.endless.proofs.Ended.{came-back, came-end}
-use Rattle.invariants.specs.Refusals.{Forbids, Stops, action, long-run, Arises, AfterScan, Ends, stopped, differs}
-use Rattle.invariants.specs.Refusals.{closes}
+use Rattle.invariants.specs.Refusals.{Forbids, Stops, action, long-run, Arises, AfterScan, StoppedBy, DiffersBy}
+use Rattle.invariants.specs.Refusals.{ClosesBy, Ends}
 use Rattle.invariants.proofs.Going.{says, forbidden-stops, one-cause, scan-most, scans-rise}
 
 -- ---- what is known where a run was stopped on its way to k scans, from state n on
@@ -145,7 +145,16 @@ module _ (T I : List ℕ) where
       Ends T I (halted cause (r .machine))
   by-stop cause r k n h on s =
       let early = s .early in
-      rw (s .machine) (stopped (r .number) (arises (r .number) (s .last) (moves-joined n (r .number) on (s .on))) (s .stops) (omega arith))
+      rw (s .machine)
+      (inl
+      (record {
+        number = r .number;
+        arises = arises (r .number) (s .last) (moves-joined n (r .number) on (s .on));
+        stops = s .stops;
+        early = omega arith;
+        scan-is = refl;
+        process-is = refl;
+      }))
 
   by-closing : (back last : Reached) → back .machine ≡ stateAt T I (back .number) →
       last .machine ≡ stateAt T I (last .number) →
@@ -156,9 +165,18 @@ module _ (T I : List ℕ) where
       go : (x : Bool) → sameState (last .machine .state) (back .machine .state) ≡ x →
           Ends T I (pick x (Closed (last .number) (back .number)) (Halted NotClosed (scansOf I) 0))
       go true g =
-          closes (back .number) (last .number) b l (rw (e, f) at (same-is-equal (last .machine .state) (back .machine .state) g))
-      go false g =
-          differs (back .number) (last .number) b l (λ h. not-same (equal-is-same (last .machine .state) (back .machine .state) (rw (e, f) h)) g)
+          record { after-b = b; after-q = l; same = rw (e, f) at (same-is-equal (last .machine .state) (back .machine .state) g) }
+      go false g = inr
+          (record {
+            back = back .number;
+            last = last .number;
+            after-b = b;
+            after-q = l;
+            differ = λ h. not-same (equal-is-same (last .machine .state) (back .machine .state) (rw (e, f) h)) g;
+            cause-is = refl;
+            scan-is = refl;
+            process-is = refl;
+          })
         where
           not-same : {x : Bool} → x ≡ true → x ≡ false → ⊥
           not-same p r = let z : _≡_ {A = ℕ} 0 1 = cc in omega arith
@@ -249,20 +267,43 @@ module _ (T I : List ℕ) where
   not-both : {q j l : ℕ} {c : Cause} → Stops T I j c → stateAt T I j .scan < q → AfterScan T I q l → ⊥
   not-both {q} {j} {l} s early a = omega (arith, scans-rise T I l j (no-later s (a .arises)), a .done)
 
-  halted-same : {i j : ℕ} {c d : Cause} → i ≡ j → c ≡ d →
-      Halted c (stateAt T I i .scan + 1) (turnOf c (stateAt T I i)) ≡ Halted d (stateAt T I j .scan + 1) (turnOf d (stateAt T I j))
-  halted-same e f = rw (e, f) refl
+  one-stop : {c d : Cause} {m n p q : ℕ} → StoppedBy T I c m p → StoppedBy T I d n q → Halted c m p ≡ Halted d n q
+  one-stop {d = d} x y =
+      let e = same-stop (x .arises) (x .stops) (y .arises) (y .stops) in
+      let f = same-cause {d = d} (x .stops) (rw e (y .stops)) in
+      rw (x .scan-is, x .process-is, y .scan-is, y .process-is, e, f) refl
+
+  one-difference : {c d : Cause} {m n p q : ℕ} → DiffersBy T I c m p → DiffersBy T I d n q → Halted c m p ≡ Halted d n q
+  one-difference x y =
+      rw (x .cause-is, x .scan-is, x .process-is, y .cause-is, y .scan-is, y .process-is) refl
+
+  -- The states after scans q and b are equal or not.
+  not-either : {c : Cause} {m p n start : ℕ} → DiffersBy T I c m p → ClosesBy T I n start → ⊥
+  not-either x y = x .differ (rw (same-after (x .after-b) (y .after-b), same-after (x .after-q) (y .after-q)) (y .same))
+
+  if-stopped : {c : Cause} {m p : ℕ} → StoppedBy T I c m p → (s : Ran) → Ends T I s → Halted c m p ≡ s
+  if-stopped x (Halted d n q) (inl y) = one-stop x y
+  if-stopped x (Halted d n q) (inr y) = absurd (not-both (x .stops) (x .early) (y .after-q))
+  if-stopped x (Closed n start) y = absurd (not-both (x .stops) (x .early) (y .after-q))
+  if-stopped x (Refused cause place) y = absurd y
+
+  if-different : {c : Cause} {m p : ℕ} → DiffersBy T I c m p → (s : Ran) → Ends T I s → Halted c m p ≡ s
+  if-different x (Halted d n q) (inl y) = absurd (not-both (y .stops) (y .early) (x .after-q))
+  if-different x (Halted d n q) (inr y) = one-difference x y
+  if-different x (Closed n start) y = absurd (not-either x y)
+  if-different x (Refused cause place) y = absurd y
+
+  if-closed : {n start : ℕ} → ClosesBy T I n start → (s : Ran) → Ends T I s → Closed n start ≡ s
+  if-closed x (Halted c m p) (inl y) = absurd (not-both (y .stops) (y .early) (x .after-q))
+  if-closed x (Halted c m p) (inr y) = absurd (not-either y x)
+  if-closed x (Closed m back) y = rw (same-after (x .after-b) (y .after-b), same-after (x .after-q) (y .after-q)) refl
+  if-closed x (Refused cause place) y = absurd y
 
   one-end : (r s : Ran) → Ends T I r → Ends T I s → r ≡ s
-  one-end _ _ (stopped i a s _) (stopped j b r _) = let e = same-stop a s b r in halted-same e (same-cause s (rw e r))
-  one-end _ _ (stopped i a s l) (differs _ _ _ d _) = absurd (not-both s l d)
-  one-end _ _ (stopped i a s l) (closes _ _ _ d _) = absurd (not-both s l d)
-  one-end _ _ (differs _ _ _ d _) (stopped i a s l) = absurd (not-both s l d)
-  one-end _ _ (closes _ _ _ d _) (stopped i a s l) = absurd (not-both s l d)
-  one-end _ _ (differs _ _ _ _ _) (differs _ _ _ _ _) = refl
-  one-end _ _ (differs _ _ b l n) (closes _ _ c m e) = absurd (n (rw (same-after b c, same-after l m) e))
-  one-end _ _ (closes _ _ c m e) (differs _ _ b l n) = absurd (n (rw (same-after b c, same-after l m) e))
-  one-end _ _ (closes _ _ b l _) (closes _ _ c m _) = rw (same-after b c, same-after l m) refl
+  one-end (Halted c m p) s (inl x) y = if-stopped x s y
+  one-end (Halted c m p) s (inr x) y = if-different x s y
+  one-end (Closed n start) s x y = if-closed x s y
+  one-end (Refused cause place) s x y = absurd x
 
 -- A run answers what its states say, and nothing else. Of inputs whose return scan is below their scans, as accepted
 -- ones have it.

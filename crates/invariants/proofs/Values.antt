@@ -30,17 +30,17 @@ use Rattle.invariants.proofs.Sound.{Fine, Sound}
 use Rattle.invariants.proofs.Planning.{Case, skipping, ending, acting, plan-case, step-found}
 
 -- The first n variables stay as they are, and there are as many as before.
-pub record Kept (n : ℕ) (v w : List ℕ) : Type 0 where
+pub record Untouched (n : ℕ) (v w : List ℕ) : Type 0 where
   pub size : length w ≡ length v
   pub same : (k : ℕ) → k < n → valueAt w k ≡ valueAt v k
 
-pub unchanged : {n : ℕ} {v : List ℕ} → Kept n v v
+pub unchanged : {n : ℕ} {v : List ℕ} → Untouched n v v
 unchanged = record { size = refl; same = λ k b. refl }
 
-and-then : {n : ℕ} {u v w : List ℕ} → Kept n u v → Kept n v w → Kept n u w
+and-then : {n : ℕ} {u v w : List ℕ} → Untouched n u v → Untouched n v w → Untouched n u w
 and-then a b = record { size = b .size ∙ a .size; same = λ k h. b .same k h ∙ a .same k h }
 
-stored-above : (n x d : ℕ) (v : List ℕ) → n ≤ x → Kept n v (set v x d)
+stored-above : (n x d : ℕ) (v : List ℕ) → n ≤ x → Untouched n v (set v x d)
 unfolding valueAt
 stored-above n x d v h =
     record { size = length-set v x d; same = λ k b. getD-set-other v x k d none (λ e. omega arith) }
@@ -77,7 +77,7 @@ module _ (I : List ℕ) (inputs done : ℕ) where
       (eq-or-lt-of-le a)
 
 -- ---- the write
-pub written-kept : (T : List ℕ) (n k : ℕ) (v : List ℕ) → Kept (inputsOf T) v (written T n k v)
+pub written-kept : (T : List ℕ) (n k : ℕ) (v : List ℕ) → Untouched (inputsOf T) v (written T n k v)
 unfolding written
 written-kept T zero k v = unchanged
 written-kept T (suc n) k v =
@@ -86,7 +86,7 @@ written-kept T (suc n) k v =
 
 -- ---- an action of the table
 module _ (t : Table) where
-  put-kept : (p s : ℕ) (a : Action) (v : List ℕ) → Fine t p s a → Kept (t .inputs) v (put (putOf a) v)
+  put-kept : (p s : ℕ) (a : Action) (v : List ℕ) → Fine t p s a → Untouched (t .inputs) v (put (putOf a) v)
   unfolding put
   put-kept p s Skip v f = unchanged
   put-kept p s End v f = unchanged
@@ -106,7 +106,7 @@ module _ (t : Table) where
     p = recordAt (c .processes) i
 
     put-planned : (x : Plan) → Case t i b (recordAt (c .processes) i) (nextBy (testFor t) c) x →
-        Kept (t .inputs) (c .variables) (put (putOf (x .action)) (c .variables))
+        Untouched (t .inputs) (c .variables) (put (putOf (x .action)) (c .variables))
     unfolding put
     put-planned _ (skipping e) = unchanged
     put-planned _ (ending d e) = unchanged
@@ -114,7 +114,8 @@ module _ (t : Table) where
         put-kept i (p .state) (codedBy (rowAt t i p)) (c .variables) (s .fine i (p .state) (p .action) w)
 
     -- "x is internal"
-    pub step-inputs : StateAllowed t c → Kept (t .inputs) (c .variables) (stepOf (numbersOf t) i c .state .variables)
+    pub step-inputs : StateAllowed t c →
+        Untouched (t .inputs) (c .variables) (stepOf (numbersOf t) i c .state .variables)
     step-inputs h =
         rw (step-found t s i c b h, step-is (inTable t) i c)
         (put-planned (planBy (inTable t) i c) (plan-case t i b (recordAt (c .processes) i) (nextBy (testFor t) c) (h .records i b)))

@@ -8,3 +8,4 @@ pub mod Refusals
 pub mod Accepting
 pub mod Reading
 pub mod Turns
+pub mod Examples

@@ -5,6 +5,7 @@
 -- Assumes nothing: these are definitions. That a run answers just so is a theorem (proofs/Refused.antt).
 use Prim.Native.Nat.{ℕ, _+_, _<_, _≤_}
 use mathlib.Core.Path.{_≡_}
+use mathlib.Core.Logic.{_⊎_}
 use mathlib.Core.List.{List}
 use Rattle.coding.specs.declared.Cause.{Cause}
 use Rattle.coding.specs.declared.Cause.the-variants.{NoRule as NoRuleFound, LongTurn, LongRun, NotClosed}
@@ -16,7 +17,7 @@ use Rattle.run.specs.Moves.{stepOf}
 use Rattle.run.specs.Running.{turnOf}
 use Rattle.run.specs.declared.Machine.{Machine}
 use Rattle.run.specs.declared.Ran.{Ran}
-use Rattle.run.specs.declared.Ran.the-variants.{Closed, Halted}
+use Rattle.run.specs.declared.Ran.the-variants.{Closed, Halted, Refused}
 use Rattle.endless.specs.Recorded.{stateAt}
 
 -- The counter names a process, so that the next move is an action of it; any other move is a read or a write, which
@@ -45,14 +46,36 @@ pub record AfterScan (T I : List ℕ) (k l : ℕ) : Type 0 where
   pub sooner : (j : ℕ) → j < l → stateAt T I j .scan < k
   pub done : stateAt T I l .scan ≡ k
 
--- How a run ends. Stopped at the first state that stops it, if scan q is not done there: at the scan after those that
--- are done, and with the process whose action it was, for 5 and 6 (`turnOf`). Else by the states after scan q and after
--- scan b: if they differ, by 8 at scan q; if they are equal, it closes, and the positions are the states before the one
--- after scan q, the loop starting at the one after scan b.
-pub data Ends (T I : List ℕ) : Ran → Type 0 where
-  stopped : {cause : Cause} (j : ℕ) → Arises T I j → Stops T I j cause → stateAt T I j .scan < scansOf I →
-      Ends T I (Halted cause (stateAt T I j .scan + 1) (turnOf cause (stateAt T I j)))
-  differs : (b l : ℕ) → AfterScan T I (returnOf I) b → AfterScan T I (scansOf I) l →
-      ¬ (stateAt T I l .state ≡ stateAt T I b .state) → Ends T I (Halted NotClosed (scansOf I) 0)
-  closes : (b l : ℕ) → AfterScan T I (returnOf I) b → AfterScan T I (scansOf I) l →
-      stateAt T I l .state ≡ stateAt T I b .state → Ends T I (Closed l b)
+-- The run is stopped: by what the first state that stops it says, if scan q is not done there. The place is the scan
+-- after those that are done, and the process is the one whose action it was, for 5 and 6, else 0.
+pub record StoppedBy (T I : List ℕ) (cause : Cause) (scan process : ℕ) : Type 0 where
+  pub number : ℕ
+  pub arises : Arises T I number
+  pub stops : Stops T I number cause
+  pub early : stateAt T I number .scan < scansOf I
+  pub scan-is : scan ≡ stateAt T I number .scan + 1
+  pub process-is : process ≡ turnOf cause (stateAt T I number)
+
+-- "8 end state differs", at "scan q": the states after scans b and q arise, and are not the same.
+pub record DiffersBy (T I : List ℕ) (cause : Cause) (scan process : ℕ) : Type 0 where
+  pub back : ℕ
+  pub last : ℕ
+  pub after-b : AfterScan T I (returnOf I) back
+  pub after-q : AfterScan T I (scansOf I) last
+  pub differ : ¬ (stateAt T I last .state ≡ stateAt T I back .state)
+  pub cause-is : cause ≡ NotClosed
+  pub scan-is : scan ≡ scansOf I
+  pub process-is : process ≡ 0
+
+-- "The last state is then dropped and its predecessor is followed by the state that ended scan b": the positions are
+-- the states before the one after scan q, and the loop starts at the one after scan b.
+pub record ClosesBy (T I : List ℕ) (n start : ℕ) : Type 0 where
+  pub after-b : AfterScan T I (returnOf I) start
+  pub after-q : AfterScan T I (scansOf I) n
+  pub same : stateAt T I n .state ≡ stateAt T I start .state
+
+-- What each answer says of the run.
+abbrev pub Ends : List ℕ → List ℕ → Ran → Type 0
+Ends T I (Halted cause scan process) = StoppedBy T I cause scan process ⊎ DiffersBy T I cause scan process
+Ends T I (Closed n start) = ClosesBy T I n start
+Ends T I (Refused cause place) = ⊥

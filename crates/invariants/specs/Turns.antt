@@ -86,8 +86,8 @@ pub record Once (T : List ℕ) (state : ℕ → Machine) (p from to : ℕ) : Typ
   pub passes : PassesAt T state p at
   pub only : (k : ℕ) → from ≤ k → k < to → PassesAt T state p k → k ≡ at
 
--- What the machine counts at a state whose next move is an action: the actions of that process since its turn began, which
--- all kept the turn. The move before was the read, or the last action of the process before.
+-- What the machine counts at a state whose next move is an action: the actions of that process since its turn began,
+-- which all kept the turn. The move before was the read, or the last action of the process before.
 pub record DoneSoFar (T : List ℕ) (state : ℕ → Machine) (k : ℕ) : Type 0 where
   pub from : ℕ
   pub count : from + state k .used ≡ k
