@@ -18,7 +18,7 @@ use Rattle.run.specs.Running.{ranOf}
 use Rattle.run.specs.Trace.{numbersIn, byInputs, byTable, runOf}
 use Rattle.run.specs.declared.Ran.{Ran}
 use Rattle.endless.proofs.Accepted.{returns-below}
-use Rattle.invariants.specs.Accepting.{Accepted, Begun}
+use Rattle.invariants.specs.Accepting.{Accepted, ScansBegun}
 use Rattle.invariants.specs.Refusals.{Ends}
 use Rattle.invariants.proofs.Refused.{ran-exactly}
 
@@ -29,7 +29,7 @@ module _ (room : ℕ) (table inputs : List ℕ) where
 
   by-inputs : (roomy : ltb room traceRoom ≡ false) (n : ℕ) → tableGrammar mostProcesses (codeAt table 0) ≡ Count n →
       (y : Answer) → inputsGrammar (inputsOf (numbersIn table)) (codeAt inputs 0) ≡ y →
-      Begun (byInputs (numbersIn table) (numbersIn inputs) y) → Accepted room table inputs
+      ScansBegun (byInputs (numbersIn table) (numbersIn inputs) y) → Accepted room table inputs
   by-inputs roomy n f (Count k) g h = record {
     buffer = ltb-false room traceRoom roomy;
     table-numbers = n;
@@ -40,11 +40,11 @@ module _ (room : ℕ) (table inputs : List ℕ) where
   by-inputs roomy n f (NotRead cause place) g h = absurd h
 
   by-table : (roomy : ltb room traceRoom ≡ false) (x : Answer) → tableGrammar mostProcesses (codeAt table 0) ≡ x →
-      Begun (byTable (numbersIn table) inputs x) → Accepted room table inputs
+      ScansBegun (byTable (numbersIn table) inputs x) → Accepted room table inputs
   by-table roomy (Count n) f h = by-inputs roomy n f (inputsGrammar (inputsOf (numbersIn table)) (codeAt inputs 0)) refl h
   by-table roomy (NotRead cause place) f h = absurd h
 
-  begun-accepted : Begun (runOf room table inputs) → Accepted room table inputs
+  begun-accepted : ScansBegun (runOf room table inputs) → Accepted room table inputs
   unfolding runOf
   begun-accepted h = go (ltb room traceRoom) refl
     where
@@ -53,7 +53,7 @@ module _ (room : ℕ) (table inputs : List ℕ) where
       go false e = by-table e (tableGrammar mostProcesses (codeAt table 0)) refl (rw e at h)
 
   -- The scans of a run are begun just where all before is accepted, and then it answers what its states say.
-  pub run-exactly : (r : Ran) → Begun r →
+  pub run-exactly : (r : Ran) → ScansBegun r →
       (runOf room table inputs ≡ r) ↔ (Accepted room table inputs × Ends (numbersIn table) (numbersIn inputs) r)
   run-exactly r b = (
     λ e. let a = begun-accepted (rw e b) in (a, exactly a .0 (sym (accepted-runs a) ∙ e)),

@@ -27,7 +27,7 @@ use Rattle.endless.specs.Unrolled.{endlessState}
 use Rattle.endless.proofs.Closed.{goes-on}
 use Rattle.invariants.specs.Refusals.{Stops, action, Arises, AfterScan}
 use Rattle.invariants.specs.Turns.{ScanOf, Scanned}
-use Rattle.invariants.proofs.Running.{recorded, unrolled}
+use Rattle.invariants.proofs.Running.{recorded-is-run, endless-is-run}
 use Rattle.invariants.proofs.Going.{Says, says, scan-most, scans-rise}
 use Rattle.invariants.proofs.Answered.{run-exactly}
 use Rattle.invariants.proofs.NextState.{exe-or-output, input-or-output, same-scan-at, output-scan-at}
@@ -54,8 +54,8 @@ module _ (T I : List ℕ) where
   output-where : (j : ℕ) (p : Phase) → stateAt T I (suc j) .phase ≡ p →
       stateAt T I j .scan < stateAt T I (suc j) .scan → p ≡ Output
   output-where j Output e h = refl
-  output-where j Input e h = absurd (omega (arith, same-scan-at (recorded T I) j (input-or-output e)))
-  output-where j Exe e h = absurd (omega (arith, same-scan-at (recorded T I) j (exe-or-output e)))
+  output-where j Input e h = absurd (omega (arith, same-scan-at (recorded-is-run T I) j (input-or-output e)))
+  output-where j Exe e h = absurd (omega (arith, same-scan-at (recorded-is-run T I) j (exe-or-output e)))
 
   output-after : (k l : ℕ) → AfterScan T I k l → stateAt T I l .phase ≡ Output
   unfolding stateAt
@@ -68,7 +68,7 @@ module _ (T I : List ℕ) where
       ¬ (stateAt T I j .phase ≡ Output)
   none-between k l e a b zero h i o = omega arith
   none-between k l e a b (suc j) h i o =
-      let done = output-scan-at (recorded T I) j (moves-on e (b .arises) j (omega arith) (omega arith)) o in
+      let done = output-scan-at (recorded-is-run T I) j (moves-on e (b .arises) j (omega arith) (omega arith)) o in
       omega (arith, done, scans-rise T I l j (omega arith), a .done, b .sooner (suc j) i)
 
   in-order : (k l e : ℕ) → AfterScan T I k l → AfterScan T I (k + 1) e → l < e
@@ -104,7 +104,7 @@ module _ (T I : List ℕ) where
   module _ (some : 1 ≤ processesOf T) (few : processesOf T < 65535) where
     next-scan : (k l e : ℕ) → AfterScan T I k l → AfterScan T I (k + 1) e → Scanned T I k
     next-scan k l e a b =
-        let (write, scan, is) = between-outputs (recorded T I) some few l e (in-order k l e a b) (λ j _ c. moves-on e (b .arises) j (omega arith) c)
+        let (write, scan, is) = between-outputs (recorded-is-run T I) some few l e (in-order k l e a b) (λ j _ c. moves-on e (b .arises) j (omega arith) c)
         (output-after k l a) (output-after (k + 1) e b) (none-between k l e a b) in
         record { read = l; write = write; begins = a; scan = scan; ends = rw is at b }
 
@@ -137,4 +137,4 @@ pub endless-scans : (room n start : ℕ) (table inputs : List ℕ) → runOf roo
 endless-scans room n start table inputs e read out =
     let ok = run-exactly room table inputs (Closed n start) tt .0 e .0 in
     let (some, few) = process-count (codeAt table 0) (ok .table-numbers) (ok .table-read) in
-    scan-turns (unrolled (numbersIn table) (numbersIn inputs)) some few read (λ k _ _. goes-on room n start table inputs e k) out
+    scan-turns (endless-is-run (numbersIn table) (numbersIn inputs)) some few read (λ k _ _. goes-on room n start table inputs e k) out

@@ -1,5 +1,4 @@
--- Inputs are never unset once read: they have what was recorded for the scan that was read last. So a run with an input
--- variable never comes back to the start.
+-- From the first read on the input variables have what was recorded for the scan that was read last.
 -- Assumes nothing.
 use Prim.Native.Nat.{ℕ, zero, suc, _+_, _-_, _<_, _≤_}
 use native.Mathlib.Omega.{arith}

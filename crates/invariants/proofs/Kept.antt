@@ -21,7 +21,7 @@ use Rattle.controller.specs.declared.Action.{Action}
 use Rattle.controller.specs.declared.Action.the-variants.{Skip, End, Updates, Tout, Reset, StartP, StopP, Start, Set}
 use Rattle.controller.specs.declared.Action.the-variants.{Next, Stop, Err}
 use Rattle.scan.specs.Scanning.{readOf, writeOf}
-use Rattle.invariants.specs.Text.{statesFor, actionsFor, testFor, rowAt, There}
+use Rattle.invariants.specs.TableRows.{statesFor, actionsFor, testFor, rowAt, There}
 use Rattle.invariants.specs.Allows.{RecordAllowed, StateAllowed, RecordAllowed.stopped as is-stopped}
 use Rattle.invariants.specs.Allows.{RecordAllowed.failed, RecordAllowed.active as is-active}
 use Rattle.invariants.proofs.Acting.{Sent, nobody, sends, sentOf, send, ownOf, ofTimer, ofReset, Naming}

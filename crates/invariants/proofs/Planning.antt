@@ -20,7 +20,7 @@ use Rattle.controller.specs.declared.Process.{Process}
 use Rattle.controller.specs.declared.Controller.{Controller}
 use Rattle.controller.specs.declared.Action.the-variants.{Skip, End}
 use Rattle.run.specs.Moves.{active, stepOf}
-use Rattle.invariants.specs.Text.{statesFor, actionsFor, rowFor, testFor, rowAt, There}
+use Rattle.invariants.specs.TableRows.{statesFor, actionsFor, rowFor, testFor, rowAt, There}
 use Rattle.invariants.specs.Allows.{RecordAllowed, StateAllowed, RecordAllowed.stopped as is-stopped}
 use Rattle.invariants.specs.Allows.{RecordAllowed.failed, RecordAllowed.active as is-active}
 use Rattle.invariants.specs.Due.{guardBy, nextBy, codedBy, Due, skips, ends, acts}

@@ -23,8 +23,7 @@ use Rattle.run.specs.Moves.{begun, stepOf, moveOf}
 use Rattle.run.specs.declared.Machine.{Machine}
 use Rattle.invariants.specs.Allows.{RecordAllowed, StateAllowed}
 use Rattle.invariants.specs.Runs.{RunOf}
-use Rattle.invariants.specs.Leading.{Leads, there, move}
-use Rattle.invariants.specs.Staying.{Inside, Stays}
+use Rattle.invariants.specs.Staying.{Inside, StaysInTable}
 use Rattle.invariants.proofs.Sound.{Sound, sound}
 use Rattle.invariants.proofs.Planning.{step-found, step-due}
 use Rattle.invariants.specs.Refusals.{Acts}
@@ -73,11 +72,6 @@ module _ (t : Table) (s : Sound t) where
       (λ a l e. step-size m a h)
       (λ cause f. refl)
 
-  pub leads-allowed : {I : List ℕ} {n : ℕ} {m l : Machine} → Leads (numbersOf t) I n m l → StateAllowed t (m .state) →
-      StateAllowed t (l .state)
-  leads-allowed there h = h
-  leads-allowed {I} (move {m = m} e p) h = leads-allowed p (move-allowed I (m .scan) m h)
-
   inside : (m : Machine) → StateAllowed t (m .state) → length (m .state .variables) ≡ mostVariables →
       Inside t (numbersOf t) m
   inside m h l = record { allowed = h; sized = l; due = λ b. step-due t s (m .state .counter) (m .state) b h }
@@ -108,10 +102,6 @@ module _ (t : Table) (h : Allowed mostProcesses t) where
   run-allowed {I} {taking} {state} r (suc j) =
       rw (r .next j) (move-allowed t (sound mostProcesses t h) I (taking (state j .scan)) (state j) (run-allowed r j))
 
-  pub led-allowed : {I : List ℕ} {n : ℕ} {m : Machine} → Leads (numbersOf t) I n (begun mostProcesses) m →
-      StateAllowed t (m .state)
-  led-allowed p = leads-allowed t (sound mostProcesses t h) p first
-
   pub run-sized : {I : List ℕ} {taking : ℕ → ℕ} {state : ℕ → Machine} → RunOf (numbersOf t) I taking state → (j : ℕ) →
       length (state j .state .variables) ≡ mostVariables
   unfolding start
@@ -119,12 +109,12 @@ module _ (t : Table) (h : Allowed mostProcesses t) where
   run-sized {I} {taking} {state} r (suc j) =
       rw (r .next j) (move-size t (sound mostProcesses t h) I (taking (state j .scan)) (state j) (run-allowed r j) ∙ run-sized r j)
 
-  pub run-stays : Stays t (numbersOf t)
+  pub run-stays : StaysInTable t (numbersOf t)
   run-stays I taking state r j = inside t (sound mostProcesses t h) (state j) (run-allowed r j) (run-sized r j)
 
 -- So in every run of numbers that the reader accepts: they are those of an allowed table, and the run stays in it.
 pub accepted-run-allowed : (c : Code) (n : ℕ) → tableGrammar mostProcesses c ≡ Count n →
-    (t : Table) × (values c ≡ numbersOf t) × Allowed mostProcesses t × Stays t (values c)
+    (t : Table) × (values c ≡ numbersOf t) × Allowed mostProcesses t × StaysInTable t (values c)
 accepted-run-allowed c n e =
     let a = accepted-is-allowed mostProcesses (omega arith) c n e in
     (a .0, a .1, a .2, rw (a .1) (run-stays (a .0) (a .2)))

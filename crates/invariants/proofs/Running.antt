@@ -8,10 +8,10 @@ use Rattle.endless.specs.Recorded.{stateAt}
 use Rattle.endless.specs.Unrolled.{recordedScan, endlessState}
 use Rattle.invariants.specs.Runs.{RunOf}
 
-pub recorded : (T I : List ℕ) → RunOf T I (λ done. done) (stateAt T I)
+pub recorded-is-run : (T I : List ℕ) → RunOf T I (λ done. done) (stateAt T I)
 unfolding stateAt
-recorded T I = record { first = refl; next = λ n. refl }
+recorded-is-run T I = record { first = refl; next = λ n. refl }
 
-pub unrolled : (T I : List ℕ) → RunOf T I (recordedScan (scansOf I) (returnOf I)) (endlessState T I)
+pub endless-is-run : (T I : List ℕ) → RunOf T I (recordedScan (scansOf I) (returnOf I)) (endlessState T I)
 unfolding endlessState
-unrolled T I = record { first = refl; next = λ n. refl }
+endless-is-run T I = record { first = refl; next = λ n. refl }

@@ -20,7 +20,7 @@ use Rattle.controller.specs.Actions.{actionOf}
 use Rattle.controller.specs.declared.Action.{Action}
 use Rattle.controller.specs.declared.Action.the-variants.{Skip, End, Updates, Tout, Reset, StartP, StopP, Start, Set}
 use Rattle.controller.specs.declared.Action.the-variants.{Next, Stop, Err}
-use Rattle.invariants.specs.Text.{statesFor, actionsFor, rowFor, testFor, There}
+use Rattle.invariants.specs.TableRows.{statesFor, actionsFor, rowFor, testFor, There}
 use Rattle.invariants.specs.Due.{codedBy}
 
 each-at : {A : Type 0} (P : ℕ → A → Type 0) (n : ℕ) (l : List A) (k : ℕ) (d : A) → Each P n l → k < length l →

@@ -20,7 +20,7 @@ use Rattle.controller.specs.declared.Action.{Action}
 use Rattle.controller.specs.declared.Action.the-variants.{Skip, End}
 use Rattle.scan.specs.Guards.{testHolds, guardHolds, nextOf}
 use Rattle.run.specs.Moves.{active, stepOf}
-use Rattle.invariants.specs.Text.{rowFor, testFor}
+use Rattle.invariants.specs.TableRows.{rowFor, testFor}
 use Rattle.invariants.specs.Due.{guardBy, nextBy, codedBy}
 use Rattle.invariants.proofs.Acting.{acted, act-is}
 

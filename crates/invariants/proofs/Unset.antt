@@ -11,7 +11,9 @@ use lib.Seq.{getD-drop}
 use Rattle.coding.specs.Number.{Begin, number, none as no-number, first}
 use Rattle.coding.specs.Code.{itemOr, codeFrom, codeAt, values}
 use Rattle.coding.proofs.Trip.{Begins, written-read}
+use Rattle.coding.specs.declared.Answer.the-variants.{Count}
 use Rattle.ranges.specs.Limits.{mostProcesses}
+use Rattle.table.specs.Table.{tableGrammar}
 use Rattle.lookups.specs.Places.{inputsOf, readingOf, returnOf}
 use Rattle.structure.proofs.Whole.{accepted-is-allowed}
 use Rattle.controller.specs.State.{none, valueAt, start as startOf}
@@ -22,10 +24,10 @@ use Rattle.run.specs.declared.Machine.{Machine}
 use Rattle.endless.specs.Recorded.{stateAt}
 use Rattle.endless.proofs.Ended.{Ended, ended}
 use Rattle.endless.proofs.Along.{start-below}
-use Rattle.invariants.specs.Accepting.{Accepted, Bytes}
+use Rattle.invariants.specs.Accepting.{Bytes}
 use Rattle.invariants.specs.Runs.{RunOf}
 use Rattle.invariants.specs.Reading.{Holding, InputsSet}
-use Rattle.invariants.proofs.Running.{recorded}
+use Rattle.invariants.proofs.Running.{recorded-is-run}
 use Rattle.invariants.proofs.Answered.{run-exactly}
 use Rattle.invariants.proofs.Inputs.{inputs-held}
 
@@ -51,12 +53,12 @@ holding-set : {T I v : List ℕ} {d : ℕ} → ((i : ℕ) → getD I i 0 < none)
 unfolding readingOf
 holding-set {T} {I} {v} {d} small h k b = rw (h .values k b) (small _)
 
--- In every state after the first read, of the recorded run and of the endless run alike.
-pub never-unset : (room : ℕ) (table inputs : List ℕ) → Accepted room table inputs → Bytes inputs →
+-- In every state after the first read, of the recorded-is-run run and of the endless run alike.
+pub never-unset : (table inputs : List ℕ) (n : ℕ) → tableGrammar mostProcesses (codeAt table 0) ≡ Count n → Bytes inputs →
     {taking : ℕ → ℕ} {state : ℕ → Machine} → RunOf (numbersIn table) (numbersIn inputs) taking state →
     (j : ℕ) → 1 ≤ j → InputsSet (numbersIn table) (state j .state .variables)
-never-unset room table inputs ok bytes r j h =
-    let (t, same, allowed, _, _) = accepted-is-allowed mostProcesses (omega arith) (codeAt table 0) (ok .table-numbers) (ok .table-read) in
+never-unset table inputs n accepted bytes r j h =
+    let (t, same, allowed, _, _) = accepted-is-allowed mostProcesses (omega arith) (codeAt table 0) n accepted in
     rw same (holding-set (numbers-small inputs bytes) (inputs-held t allowed (rw same at r) j h))
 
 -- ---- "b = 0: the start"
@@ -83,6 +85,6 @@ never-from-start room table inputs bytes some back n start e =
     let zero = at-start h back in
     let ok = run-exactly room table inputs (Closed n start) tt .0 e .0 in
     let later : 1 ≤ n = omega (arith, start-below h) in
-    let set = never-unset room table inputs ok bytes (recorded T I) n later 0 some in
+    let set = never-unset table inputs (ok .table-numbers) (ok .table-read) bytes (recorded-is-run T I) n later 0 some in
     let same : stateAt T I n .state ≡ stateAt T I 0 .state = rw zero at (h .same) in
     omega (arith, set, ap (λ (c : Controller). valueAt (c .variables) 0) same, starts-unset T I)

@@ -21,7 +21,7 @@ use Rattle.controller.specs.declared.Action.the-variants.{Skip, End, Updates, T
 use Rattle.controller.specs.declared.Action.the-variants.{Next, Stop, Err}
 use Rattle.scan.specs.Scanning.{taken, written}
 use Rattle.run.specs.Moves.{stepOf}
-use Rattle.invariants.specs.Text.{testFor, rowAt}
+use Rattle.invariants.specs.TableRows.{testFor, rowAt}
 use Rattle.invariants.specs.Due.{nextBy, codedBy}
 use Rattle.invariants.specs.Allows.{StateAllowed}
 use Rattle.invariants.proofs.Acting.{putOf, put}

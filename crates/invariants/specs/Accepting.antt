@@ -24,10 +24,10 @@ pub record Accepted (room : ℕ) (table inputs : List ℕ) : Type 0 where
   pub inputs-read : inputsGrammar (inputsOf (numbersIn table)) (codeAt inputs 0) ≡ Count inputs-numbers
 
 -- An answer of a run whose scans were begun: 10, and the refusals of the table and of the inputs, come before.
-abbrev pub Begun : Ran → Type 0
-Begun (Closed n start) = Unit {0}
-Begun (Halted cause scan process) = Unit {0}
-Begun (Refused cause place) = ⊥
+abbrev pub ScansBegun : Ran → Type 0
+ScansBegun (Closed n start) = Unit {0}
+ScansBegun (Halted cause scan process) = Unit {0}
+ScansBegun (Refused cause place) = ⊥
 
 -- A list of bytes, as every lent slice is one.
 abbrev pub Bytes : List ℕ → Type 0

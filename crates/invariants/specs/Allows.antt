@@ -10,7 +10,7 @@ use Rattle.structure.specs.Allowed.{OneOf}
 use Rattle.controller.specs.State.{stop, recordAt}
 use Rattle.controller.specs.declared.Process.{Process}
 use Rattle.controller.specs.declared.Controller.{Controller}
-use Rattle.invariants.specs.Text.{statesFor, actionsFor}
+use Rattle.invariants.specs.TableRows.{statesFor, actionsFor}
 
 pub data RecordAllowed (t : Table) (p : ℕ) (r : Process) : Type 0 where
   stopped : r .state ≡ stop → RecordAllowed t p r

@@ -23,7 +23,7 @@ use Rattle.controller.specs.declared.Acted.{Acted}
 use Rattle.controller.specs.declared.Action.{Action}
 use Rattle.controller.specs.declared.Action.the-variants.{Skip, End}
 use Rattle.run.specs.Moves.{active}
-use Rattle.invariants.specs.Text.{statesFor, testFor, rowAt, There}
+use Rattle.invariants.specs.TableRows.{statesFor, testFor, rowAt, There}
 
 -- A guard and the choice of the next action, by whatever tells test k.
 unfoldable pub guardBy : (ℕ → TestRow) → List ℕ → List ℕ → ℕ → Bool

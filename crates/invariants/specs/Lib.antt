@@ -1,8 +1,7 @@
-pub mod Text
+pub mod TableRows
 pub mod Allows
 pub mod Due
 pub mod Runs
-pub mod Leading
 pub mod Staying
 pub mod Refusals
 pub mod Accepting

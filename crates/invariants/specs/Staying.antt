@@ -23,6 +23,6 @@ pub record Inside (t : Table) (T : List ℕ) (m : Machine) : Type 0 where
       Due t (m .state .counter) (m .state) (stepOf T (m .state .counter) (m .state))
 
 -- Every state of every run of the numbers T.
-abbrev pub Stays : Table → List ℕ → Type 0
-Stays t T =
+abbrev pub StaysInTable : Table → List ℕ → Type 0
+StaysInTable t T =
     (I : List ℕ) (taking : ℕ → ℕ) (state : ℕ → Machine) → RunOf T I taking state → (j : ℕ) → Inside t T (state j)

@@ -122,14 +122,14 @@ slips =
 -- Cases of the second trace.
 abbrev pub oneInputCases : List Case
 oneInputCases =
-    -- At the loop's one Input, 5, the second of the input sequence is 5 itself, a lap later: neither is there none, nor is
-    -- it the Input 1, at which atom 1 does not hold.
+    -- At the loop's one Input, 5, the second of the input sequence is 5 itself, a lap later: there is a second, and it is
+    -- not the Input 1, at which atom 1 does not hold.
     holds (one (Next (Each Reads)) (atom 1)) 5
     ∷ fails (one (Next (Each Reads)) (one Not (atom 1))) 5
     -- From the Exe 6 both are that position, one lap and two laps later; from the Input 1 the second is 5.
     ∷ holds (one (Next (Each Reads)) (atom 1)) 6
     ∷ holds (one (Next (Each Reads)) (atom 1)) 1
-    -- A finding before the loop: at the Input 1 atom 0 holds and atom 1 does not. It is none of the endless repetition, and
-    -- it counts: "every input position of the lasso".
+    -- A finding before the loop: at the Input 1 atom 0 holds and atom 1 does not. The loop does not repeat it, and it
+    -- counts all the same: "every input position of the lasso".
     ∷ finds answered (1 ∷ [])
     ∷ []

@@ -1,1 +1,1 @@
-// Which tables are allowed, said of a table as it is made up, and that the readers accept just the numbers of these. No code.
+// Which tables and inputs records are allowed, said of them as they are made up, that the readers accept just the numbers of these, and how many numbers there are. No code.

@@ -1,4 +1,5 @@
--- The text that a table has for its processes: their states, the actions of these, and the tests that guards name.
+-- What a table has for its processes, by number: their states, the rows of the actions of these, and the tests that
+-- guards name.
 -- Assumes nothing: these are definitions.
 use Prim.Native.Nat.{ℕ, _-_}
 use mathlib.Core.List.{List, []}
