@@ -11,7 +11,7 @@ use Rattle.marked.proofs.Cases.{shown}
 use Rattle.ranges.specs.Values.{within, totalOk, isInternal, isVariable, testAOk, opOk, xOk, yOk, usesNexts, guardOk, usesElse, nextOk}
 use Rattle.ranges.specs.Order.{allowed, atSources, afterSource, atTests, afterTest, afterAction}
 use Rattle.coding.specs.Number.{numberAt}
-use Rattle.coding.specs.Code.{codeAt, values}
+use Rattle.coding.specs.Code.{codeAt}
 use Rattle.table.specs.Table.{check, countsFrom, stateOk, testsFrom, tableGrammar, inputsGrammar}
 use Rattle.lookups.specs.Places.{sourceOf, testOf, afterStates, afterProcesses, processPlace, statePlace, rowFrom, actionFrom, actionOf as rowOf, readingOf}
 use Rattle.controller.specs.State.{up, goes, timed, entering, valueAt, statesOf, stateAt, recordAt, withRecord, start, raised, allRaised}

@@ -2,8 +2,6 @@
 -- Assumes nothing.
 use Prim.Native.Nat.{ℕ, _<_}
 use mathlib.Core.Path.{_≡_, refl}
-use mathlib.Core.List.{List}
-use native.Mathlib.Omega.{arith}
 use Rattle.coding.specs.Number.{numberAt}
 use Rattle.coding.specs.Code.{codeAt}
 use Rattle.coding.specs.declared.Cause.the-variants.{NoRule, LongTurn, NotClosed}

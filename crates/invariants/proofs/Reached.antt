@@ -19,7 +19,7 @@ use Rattle.controller.specs.State.{none, start, entering, stopped, recordAt}
 use Rattle.controller.specs.declared.Process.{Process}
 use Rattle.controller.specs.declared.Controller.{Controller}
 use Rattle.scan.specs.Scanning.{readOf, writeOf}
-use Rattle.run.specs.Moves.{begun, stepOf, moveOf}
+use Rattle.run.specs.Moves.{stepOf, moveOf}
 use Rattle.run.specs.declared.Machine.{Machine}
 use Rattle.invariants.specs.Allows.{RecordAllowed, StateAllowed}
 use Rattle.invariants.specs.Runs.{RunOf}

@@ -1,9 +1,6 @@
 -- The marked cases hold of the definitions: one computed test over their list. Assumes nothing.
-use Prim.Native.Nat.{ℕ, suc, zero, _≤_, _<_, _+_}
-use native.Mathlib.Omega.{arith}
-use native.Mathlib.Nat.{eq-or-lt-of-le, le-of-suc-le-suc}
-use mathlib.Core.Path.{_≡_, refl, subst, sym, ap, _∙_}
-use mathlib.Core.Logic.{_↔_, ⊎-elim}
+use Prim.Native.Nat.{ℕ}
+use mathlib.Core.Path.{_≡_, refl, sym, ap, _∙_}
 use mathlib.Core.Bool.{Bool, true, false, So, not as neg, _&&_, decide, false≢true}
 use mathlib.Core.List.{List, [], _∷_}
 use lib.Dec.{eqb}
@@ -11,14 +8,13 @@ use borrow.Author.Tests.{eqb-true}
 use Rattle.requirement.specs.declared.Phase.the-variants.{Input}
 use Rattle.requirement.specs.declared.One.the-variants.{Not}
 use Rattle.requirement.specs.declared.Two.the-variants.{And}
-use Rattle.requirement.specs.Requirement.{Requirement, mark, one, two}
+use Rattle.requirement.specs.Requirement.{mark, one, two}
 use Rattle.requirement.specs.Tags.{codeOf}
 use Rattle.coding.specs.Number.{bytesOf}
-use Rattle.meaning.specs.Phases.{Phase-discrete}
 use Rattle.meaning.specs.Translation.{translate}
-use Rattle.meaning.specs.Trace.{Trace, WellFormed, Follows, after, position}
+use Rattle.meaning.specs.Trace.{Trace, WellFormed, position}
 use Rattle.meaning.specs.Rows.{judge, walk}
-use Rattle.meaning.specs.Findings.{Findings, select}
+use Rattle.meaning.specs.Findings.{select}
 use Rattle.marked.specs.Marked.{answered, bench, benchBytes, oneInput, oneInputBytes, marked, slips, oneInputCases}
 use Rattle.marked.specs.Marked.{Case, holds, fails, finds, gives, bytes, StatedOn, Stated, All}
 use Rattle.coding.specs.declared.Answer.the-variants.{Count}

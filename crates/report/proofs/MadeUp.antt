@@ -13,7 +13,7 @@ use lib.Dec.{ltb}
 use borrow.Author.Tests.{ltb-false}
 use Rattle.coding.specs.Number.{pick, bytesOf, first, Begin, number, none, placed, numberAt}
 use Rattle.coding.specs.declared.Cause.the-variants.{CutShort, LeftOver}
-use Rattle.coding.specs.declared.Number.the-variants.{Value, Fault}
+use Rattle.coding.specs.declared.Number.the-variants.{Value}
 use Rattle.coding.proofs.Trip.{read-written, written-read, Begins}
 use Rattle.report.proofs.Splitting.{blockBy, whole-block, all-blocks, by-third, by-second}
 use Rattle.report.specs.Framing.{longestInput, blockAt, withThird, withSecond, withFirst, framingOf, between}

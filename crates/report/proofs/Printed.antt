@@ -1,15 +1,14 @@
 -- The program never prints 9, 10 or 11: what it prints is a refusal by 1 to 8, or the answer for an accepted input.
 -- Assumes nothing.
-use Prim.Native.Nat.{ℕ, _+_, _-_}
+use Prim.Native.Nat.{ℕ, _-_}
 use native.Mathlib.Omega.{arith}
 use mathlib.Core.Path.{_≡_, refl}
 use mathlib.Core.List.{List}
 use lib.ListN.{length}
 use lib.Dec.{ltb}
-use Rattle.coding.specs.Number.{pick, numberAt}
+use Rattle.coding.specs.Number.{numberAt}
 use Rattle.coding.specs.Code.{codeAt}
 use Rattle.coding.specs.Refusal.{numberOf}
-use Rattle.coding.specs.declared.Cause.the-variants.{CutShort}
 use Rattle.coding.specs.declared.Number.{Number}
 use Rattle.coding.specs.declared.Number.the-variants.{Value, Fault}
 use Rattle.coding.proofs.Causes.{OneNumber, by-test, number-one}
