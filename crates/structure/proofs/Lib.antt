@@ -7,3 +7,4 @@ pub mod Counts
 pub mod Whole
 pub mod Records
 pub mod Sizes
+pub mod ByBytes
