@@ -9,6 +9,7 @@ use borrow.Fn.Kinds.{Dens, endedOf}
 use denote.Ref.{now}
 use denote.Triple.Clauses.{AtExit}
 use Rattle.report.proofs.Unique.{one-text}
+use Rattle.program.specs.Program.{ReportOn}
 use Rattle.program.specs.declared.Checked.{Checked}
 use Rattle.program.proofs.check_input.Kinds as check-input
 use Rattle.program.proofs.check_input.Reads as check-input-reads
@@ -18,6 +19,7 @@ pub check-input-unique : (κs : Lfts 2) (r t : Checked) (a : Dens κs check-inpu
     check-input-reads.Post κs a r e → check-input-reads.Post κs a t f →
     take (r .read) (now (e .0)) ≡ take (t .read) (now (f .0)) →
     (r .length ≡ t .length) × (now (e .1 .0) ≡ now (f .1 .0))
+unfolding ReportOn
 check-input-unique κs r t a e f p q same =
     let x = p .prints in
     let y = q .prints in

@@ -2,7 +2,8 @@
 -- blocks .. it prints exactly" the lines of its report. What a call of the operating system read or wrote no promise
 -- can say. So two things are left to believe: that `io::read_full` puts the first bytes of standard input at the front
 -- of the buffer it is lent, all of them if they fit (a read that fails counts as the end of the input); and that
--- `io::write_all` writes the bytes it is lent, in order. All between the two is proved.
+-- `io::write_all` writes the bytes it is lent, in order. All between the two is proved, also that the bytes lent to
+-- `io::write_all` are the text: `write_text`, which makes that one call, asks it of its caller.
 -- Assumes nothing: these are definitions.
 use Prim.Native.Nat.{ℕ, _≤_}
 use mathlib.Core.List.{List}
@@ -18,7 +19,7 @@ abbrev pub mostRead : ℕ
 mostRead = 60001
 
 -- The text is what is printed for the input s.
-abbrev pub ReportOn : List ℕ → List ℕ → Type 0
+unfoldable pub ReportOn : List ℕ → List ℕ → Type 0
 ReportOn s text = Reports s (framingOf s) text
 
 -- What is promised of a run: `input` is the buffer as it was left, of which the first `read` bytes were read; `before`

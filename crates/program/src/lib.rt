@@ -30,9 +30,11 @@ fn report_front(input: &[u8], read: usize, output: &mut [u8]) -> usize
     report::report(&input[0..read], output)
 }
 
-// Writes the first bytes of a buffer to standard output.
-fn write_front(output: &[u8], count: usize) -> bool
-    requires { ⌜ count ≤ length (now output) ⌝ }
+// Writes the first bytes of a buffer to standard output. No promise can say what is written; but what this function
+// relies on, and the prover checks where it is called, is that these bytes are the text for the input: so nothing else
+// is handed to the operating system.
+fn write_text(input: &[u8], read: usize, output: &[u8], count: usize) -> bool
+    requires { ⌜ (count ≤ length (now output)) × ReportOn (take read (now input)) (take count (now output)) ⌝ }
 {
     io::write_all(STANDARD_OUTPUT, &output[0..count])
 }
@@ -45,7 +47,7 @@ pub fn check_input(input: &mut [u8; INPUT], output: &mut [u8; OUTPUT]) -> Checke
 {
     let read = io::read_full(STANDARD_INPUT, input);
     let length = report_front(input, read, output);
-    let written = write_front(output, length);
+    let written = write_text(input, read, output, length);
     Checked {
         read,
         length,
