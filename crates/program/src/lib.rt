@@ -39,9 +39,9 @@ fn write_text(input: &[u8], read: usize, output: &[u8], count: usize) -> bool
     io::write_all(STANDARD_OUTPUT, &output[0..count])
 }
 
-// Reads standard input, reports on what was read, and writes the report's text to standard output. What is left in both
-// buffers is promised; that the bytes read are those of the input, and that those written arrive, is the operating
-// system's part, of which no promise can speak.
+// Reads standard input, reports on what was read, and writes the report's text to standard output. What is left in the
+// output buffer is promised, of the bytes that stand at the front of the input buffer; that these are the input's, and
+// that those written arrive, is the operating system's part, of which no promise can speak.
 pub fn check_input(input: &mut [u8; INPUT], output: &mut [u8; OUTPUT]) -> Checked
     ensures { λ r. ⌜ Checks r (now (input .exit)) (now (output .entry)) (now (output .exit)) ⌝ }
 {
