@@ -1,8 +1,6 @@
 use Rattle.coding.specs.Code.{sourceSize}
 use Rattle.coding.proofs.size_at.Statement.{statement}
 use Rattle.coding.proofs.size_at.Tie as tie
-use Rattle.coding.proofs.size_at.Reads as reads
-use Rattle.coding.proofs.size_at.Lts as lts
 
 returns : tie.Need-returns
 unfolding sourceSize

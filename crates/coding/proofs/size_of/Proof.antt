@@ -1,8 +1,6 @@
 use Rattle.coding.proofs.Bytes.{bytes₁, bytes₂, bytes₃}
 use Rattle.coding.proofs.size_of.Statement.{statement}
 use Rattle.coding.proofs.size_of.Tie as tie
-use Rattle.coding.proofs.size_of.Reads as reads
-use Rattle.coding.proofs.size_of.Lts as lts
 
 returns : tie.Need-returns
 returns c = rw (bytes₁ _ (c .if1 .taken))

@@ -2,27 +2,15 @@ use Rattle.interface.proofs.Tells.{tells}
 use borrow.Author.Needs.{needs}
 use Rattle.interface.proofs.scancheck_write_requirement.Statement.{statement}
 use Rattle.interface.proofs.scancheck_write_requirement.Tie as tie
-use Rattle.interface.proofs.scancheck_write_requirement.Reads as reads
-use Rattle.interface.proofs.scancheck_write_requirement.Lts as lts
-use Rattle.interface.proofs.kind_of.Reads as kind-of-reads
-use Rattle.interface.proofs.tell_answer.Reads as tell-answer-reads
-use Rattle.requirement.proofs.write.Reads as write-reads
-
-kind-of-requires : tie.Need-kind-of-requires
-kind-of-requires c κs = search needs
-
-write-requires : tie.Need-write-requires
-write-requires c κs = search needs
-
-tell-answer-requires : tie.Need-tell-answer-requires
-tell-answer-requires c κs = search needs
-
-same-length : tie.Need-same-length
-same-length c = search needs
 
 returns : tie.Need-returns
-returns c = rw (← c .before .before .before .before .before .kind-of .ensures) (tells _ _ _ _ _ _ (c .tell-answer .ensures) (c .before .before .before .write .ensures))
+returns c =
+    let at-write = c .before .before .before in
+    let at-kind-of = at-write .before .before in
+    rw (← at-kind-of .kind-of .ensures) (tells _ _ _ _ _ _ (c .tell-answer .ensures) (at-write .write .ensures))
 
 pub scancheck-write-requirement-spec : {M : Type 1} → statement M
 scancheck-write-requirement-spec =
-    tie.close (tie.spec kind-of-requires write-requires tell-answer-requires same-length returns)
+    tie.close
+    (tie.spec (λ c κs. search needs) (λ c κs. search needs) (λ c κs. search needs)
+    (λ c. search needs) returns)

@@ -2,8 +2,6 @@ use borrow.Author.Tests.{eq-eqb, ne-eqb, lt-ltb, le-ltb}
 use Rattle.lasso.specs.Checking.{lengthOk}
 use Rattle.lasso.proofs.length_ok.Statement.{statement}
 use Rattle.lasso.proofs.length_ok.Tie as tie
-use Rattle.lasso.proofs.length_ok.Reads as reads
-use Rattle.lasso.proofs.length_ok.Lts as lts
 
 returns : tie.Need-returns
 unfolding lengthOk

@@ -2,8 +2,6 @@ use borrow.Author.Tests.{eq-eqb, ne-eqb}
 use Rattle.lasso.specs.Checking.{mayFollow}
 use Rattle.lasso.proofs.may_follow.Statement.{statement}
 use Rattle.lasso.proofs.may_follow.Tie as tie
-use Rattle.lasso.proofs.may_follow.Reads as reads
-use Rattle.lasso.proofs.may_follow.Lts as lts
 
 returns : tie.Need-returns
 unfolding mayFollow

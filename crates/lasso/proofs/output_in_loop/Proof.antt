@@ -6,9 +6,6 @@ use Rattle.lasso.specs.Checking.{outputFrom}
 use borrow.Author.Needs.{needs}
 use Rattle.lasso.proofs.output_in_loop.Statement.{statement}
 use Rattle.lasso.proofs.output_in_loop.Tie as tie
-use Rattle.lasso.proofs.output_in_loop.Reads as reads
-use Rattle.lasso.proofs.output_in_loop.Lts as lts
-use Rattle.lasso.proofs.phase_in.Reads as phase-in-reads
 
 abbrev Inv-loop : tie.InvT-loop
 Inv-loop trace start n i₀ i = outputFrom trace (positions trace - i) i ≡ outputFrom trace (positions trace - start) start
@@ -16,23 +13,15 @@ Inv-loop trace start n i₀ i = outputFrom trace (positions trace - i) i ≡ out
 abbrev μ-loop : tie.MeasureT-loop
 μ-loop trace start n i₀ i = positions trace - i
 
-loop-holds : tie.Need-loop-holds Inv-loop μ-loop
-loop-holds c = search needs
-
-phase-in-requires : tie.Need-phase-in-requires Inv-loop μ-loop
-phase-in-requires c κs = search needs
-
 returns : tie.Need-returns Inv-loop μ-loop
-returns c = output-here _ _ (c .before .before .loop-test .taken) _ (c .before .phase-in .ensures) (c .if1 .taken) ∙ c .before .before .before .loop .inv
-
-add-i : tie.Need-add-i Inv-loop μ-loop
-add-i c = search needs
-
-loop-less : tie.Need-loop-less Inv-loop μ-loop
-loop-less c = search needs
+returns c =
+    let at-loop = c .before .before .before in
+    output-here _ _ (c .before .before .loop-test .taken) _ (c .before .phase-in .ensures) (c .if1 .taken) ∙ at-loop .loop .inv
 
 loop-again : tie.Need-loop-again Inv-loop μ-loop
-loop-again c = output-on _ _ (c .before .before .loop-test .taken) _ (c .before .phase-in .ensures) (c .if1 .left) ∙ c .before .before .before .loop .inv
+loop-again c =
+    let at-loop = c .before .before .before in
+    output-on _ _ (c .before .before .loop-test .taken) _ (c .before .phase-in .ensures) (c .if1 .left) ∙ at-loop .loop .inv
 
 returns-2 : tie.Need-returns-2 Inv-loop μ-loop
 returns-2 c = output-end _ _ (c .loop-test .left) ∙ c .before .loop .inv
@@ -40,13 +29,5 @@ returns-2 c = output-end _ _ (c .loop-test .left) ∙ c .before .loop .inv
 pub output-in-loop-spec : {M : Type 1} → statement M
 output-in-loop-spec =
     tie.close
-    (tie.spec
-    Inv-loop
-    μ-loop
-    loop-holds
-    phase-in-requires
-    returns
-    add-i
-    loop-less
-    loop-again
-    returns-2)
+    (tie.spec Inv-loop μ-loop (λ c. search needs) (λ c κs. search needs) returns
+    (λ c. search needs) (λ c. search needs) loop-again returns-2)

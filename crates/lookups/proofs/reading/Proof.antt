@@ -1,14 +1,10 @@
 use Prim.Native.Nat.{ℕ, _*_, _≤_}
 use native.Mathlib.Omega.{arith}
 use native.Mathlib.Nat.{mul-le-mul}
-use mathlib.Core.Path.{refl}
 use borrow.Author.Needs.{needs}
 use Rattle.lookups.specs.Places.{readingOf}
 use Rattle.lookups.proofs.reading.Statement.{statement}
 use Rattle.lookups.proofs.reading.Tie as tie
-use Rattle.lookups.proofs.reading.Reads as reads
-use Rattle.lookups.proofs.reading.Lts as lts
-use Rattle.lookups.proofs.places.number.Reads as number-reads
 
 -- A product of two numbers of the coding.
 product : (a b : ℕ) → a ≤ 65535 → b ≤ 65535 → a * b ≤ 65535 * 65535
@@ -23,12 +19,10 @@ add-number c = let p = product (c .before .args .inputs) (c .before .args .done)
 add-number-2 : tie.Need-add-number-2
 add-number-2 c = let p = product (c .before .args .inputs) (c .before .args .done) (omega arith) (omega arith) in search needs
 
-number-requires : tie.Need-number-requires
-number-requires c κs = search needs
-
 returns : tie.Need-returns
 unfolding readingOf
 returns c = c .number .ensures
 
 pub reading-spec : {M : Type 1} → statement M
-reading-spec = tie.close (tie.spec mul-before add-number add-number-2 number-requires returns)
+reading-spec =
+    tie.close (tie.spec mul-before add-number add-number-2 (λ c κs. search needs) returns)

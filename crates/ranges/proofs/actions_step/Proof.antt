@@ -3,19 +3,9 @@ use Rattle.ranges.proofs.Steps.{goes-on}
 use borrow.Author.Needs.{needs}
 use Rattle.ranges.proofs.actions_step.Statement.{statement}
 use Rattle.ranges.proofs.actions_step.Tie as tie
-use Rattle.ranges.proofs.actions_step.Reads as reads
-use Rattle.ranges.proofs.actions_step.Lts as lts
-use Rattle.ranges.proofs.allow.Reads as allow-reads
-use Rattle.ranges.proofs.allowed.between.Reads as between-reads
-
-between-requires : tie.Need-between-requires
-between-requires c κs = search needs
-
-allow-requires : tie.Need-allow-requires
-allow-requires c κs = search needs
 
 returns : tie.Need-returns
 returns c = goes-on (c .allow .ensures) (c .before .between .ensures) refl
 
 pub actions-step-spec : {M : Type 1} → statement M
-actions-step-spec = tie.close (tie.spec between-requires allow-requires returns)
+actions-step-spec = tie.close (tie.spec (λ c κs. search needs) (λ c κs. search needs) returns)

@@ -3,19 +3,14 @@ use Rattle.ranges.specs.Order.{afterSource}
 use borrow.Author.Needs.{needs}
 use Rattle.ranges.proofs.after_source.Statement.{statement}
 use Rattle.ranges.proofs.after_source.Tie as tie
-use Rattle.ranges.proofs.after_source.Reads as reads
-use Rattle.ranges.proofs.after_source.Lts as lts
 
 returns : tie.Need-returns
 unfolding afterSource
 returns c = rw (le-leb _ _ (c .if1 .taken))
-
-sub-t4 : tie.Need-sub-t4
-sub-t4 c = search needs
 
 returns-2 : tie.Need-returns-2
 unfolding afterSource
 returns-2 c = rw (lt-leb _ _ (c .if1 .left))
 
 pub after-source-spec : {M : Type 1} → statement M
-after-source-spec = tie.close (tie.spec returns sub-t4 returns-2)
+after-source-spec = tie.close (tie.spec returns (λ c. search needs) returns-2)

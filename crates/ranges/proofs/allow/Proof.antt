@@ -1,8 +1,6 @@
 use Rattle.ranges.specs.Order.{allowed}
 use Rattle.ranges.proofs.allow.Statement.{statement}
 use Rattle.ranges.proofs.allow.Tie as tie
-use Rattle.ranges.proofs.allow.Reads as reads
-use Rattle.ranges.proofs.allow.Lts as lts
 
 returns : tie.Need-returns
 unfolding allowed

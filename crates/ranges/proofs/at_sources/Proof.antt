@@ -2,8 +2,6 @@ use borrow.Author.Tests.{eq-eqb, ne-eqb}
 use Rattle.ranges.specs.Order.{atSources}
 use Rattle.ranges.proofs.at_sources.Statement.{statement}
 use Rattle.ranges.proofs.at_sources.Tie as tie
-use Rattle.ranges.proofs.at_sources.Reads as reads
-use Rattle.ranges.proofs.at_sources.Lts as lts
 
 returns : tie.Need-returns
 unfolding atSources

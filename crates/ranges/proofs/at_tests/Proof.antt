@@ -2,8 +2,6 @@ use borrow.Author.Tests.{eq-eqb, ne-eqb}
 use Rattle.ranges.specs.Order.{atTests}
 use Rattle.ranges.proofs.at_tests.Statement.{statement}
 use Rattle.ranges.proofs.at_tests.Tie as tie
-use Rattle.ranges.proofs.at_tests.Reads as reads
-use Rattle.ranges.proofs.at_tests.Lts as lts
 
 returns : tie.Need-returns
 unfolding atTests

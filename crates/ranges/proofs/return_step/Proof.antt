@@ -3,8 +3,6 @@ use Rattle.ranges.proofs.Products.{product}
 use borrow.Author.Needs.{needs}
 use Rattle.ranges.proofs.return_step.Statement.{statement}
 use Rattle.ranges.proofs.return_step.Tie as tie
-use Rattle.ranges.proofs.return_step.Reads as reads
-use Rattle.ranges.proofs.return_step.Lts as lts
 
 returns : tie.Need-returns
 returns c = rw (le-leb _ _ (c .if1 .taken))

@@ -2,8 +2,6 @@ use Rattle.requirement.proofs.Tagging.{not-listed}
 use Rattle.requirement.specs.Tags.{tagOf}
 use Rattle.requirement.proofs.tag_of.Statement.{statement}
 use Rattle.requirement.proofs.tag_of.Tie as tie
-use Rattle.requirement.proofs.tag_of.Reads as reads
-use Rattle.requirement.proofs.tag_of.Lts as lts
 
 returns : tie.Need-returns
 unfolding tagOf

@@ -3,12 +3,6 @@ use Rattle.scan.specs.Guards.{nextOf}
 use borrow.Author.Needs.{needs}
 use Rattle.scan.proofs.next_of.Statement.{statement}
 use Rattle.scan.proofs.next_of.Tie as tie
-use Rattle.scan.proofs.next_of.Reads as reads
-use Rattle.scan.proofs.next_of.Lts as lts
-use Rattle.scan.proofs.guard_holds.Reads as guard-holds-reads
-
-guard-holds-requires : tie.Need-guard-holds-requires
-guard-holds-requires c κs = search needs
 
 returns : tie.Need-returns
 unfolding nextOf
@@ -19,4 +13,4 @@ unfolding nextOf
 returns-2 c = rw (← c .before .guard-holds .ensures, c .if1 .left) refl
 
 pub next-of-spec : {M : Type 1} → statement M
-next-of-spec = tie.close (tie.spec guard-holds-requires returns returns-2)
+next-of-spec = tie.close (tie.spec (λ c κs. search needs) returns returns-2)

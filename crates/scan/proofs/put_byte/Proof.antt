@@ -3,20 +3,10 @@ use lib.Seq.{set-out}
 use borrow.Author.Needs.{needs}
 use Rattle.scan.proofs.put_byte.Statement.{statement}
 use Rattle.scan.proofs.put_byte.Tie as tie
-use Rattle.scan.proofs.put_byte.Reads as reads
-use Rattle.scan.proofs.put_byte.Lts as lts
-
-slice-write-trace : tie.Need-slice-write-trace
-slice-write-trace c = search needs
-
-same-length : tie.Need-same-length
-same-length c = search needs
-
-returns : tie.Need-returns
-returns c = search needs
 
 returns-2 : tie.Need-returns-2
 returns-2 c = sym (set-out _ _ _ (c .if1 .left))
 
 pub put-byte-spec : {M : Type 1} → statement M
-put-byte-spec = tie.close (tie.spec slice-write-trace same-length returns returns-2)
+put-byte-spec =
+    tie.close (tie.spec (λ c. search needs) (λ c. search needs) (λ c. search needs) returns-2)

@@ -4,14 +4,6 @@ use Rattle.controller.proofs.Arrays.{inside, outside}
 use borrow.Author.Needs.{needs}
 use Rattle.scan.proofs.value_at.Statement.{statement}
 use Rattle.scan.proofs.value_at.Tie as tie
-use Rattle.scan.proofs.value_at.Reads as reads
-use Rattle.scan.proofs.value_at.Lts as lts
-
-mul-result : tie.Need-mul-result
-mul-result c = search needs
-
-shared-slice-read-result : tie.Need-shared-slice-read-result
-shared-slice-read-result c = search needs
 
 returns : tie.Need-returns
 unfolding valueAt
@@ -22,4 +14,4 @@ unfolding valueAt
 returns-2 c = outside (c .before .args .variables .now) _ _ _ refl (c .if1 .left)
 
 pub value-at-spec : {M : Type 1} → statement M
-value-at-spec = tie.close (tie.spec mul-result shared-slice-read-result returns returns-2)
+value-at-spec = tie.close (tie.spec (λ c. search needs) (λ c. search needs) returns returns-2)

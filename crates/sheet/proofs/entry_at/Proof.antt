@@ -3,48 +3,30 @@ use Rattle.sheet.proofs.Laws.{entry-no-name, entry-no-body, entry-whole
 use borrow.Author.Needs.{needs}
 use Rattle.sheet.proofs.entry_at.Statement.{statement}
 use Rattle.sheet.proofs.entry_at.Tie as tie
-use Rattle.sheet.proofs.entry_at.Reads as reads
-use Rattle.sheet.proofs.entry_at.Lts as lts
-use Rattle.sheet.proofs.name_at.Reads as name-at-reads
-use Rattle.sheet.proofs.text_at.Reads as text-at-reads
-
-name-at-requires : tie.Need-name-at-requires
-name-at-requires c κs = search needs
-
-enum-known-cause : tie.Need-enum-known-cause
-enum-known-cause c = search needs
-
-enum-known-name : tie.Need-enum-known-name
-enum-known-name c = search needs
-
-text-at-requires : tie.Need-text-at-requires
-text-at-requires c κs = search needs
-
-enum-known-cause-2 : tie.Need-enum-known-cause-2
-enum-known-cause-2 c = search needs
-
-enum-known-body : tie.Need-enum-known-body
-enum-known-body c = search needs
 
 returns : tie.Need-returns
-returns c = entry-no-name _ _ _ _ (sym (c .before .cause .given .1) ∙ c .before .before .before .name-at .ensures)
+returns c =
+    let at-name-at = c .before .before .before in
+    entry-no-name _ _ _ _ (sym (c .before .cause .given .1) ∙ at-name-at .name-at .ensures)
 
 returns-2 : tie.Need-returns-2
-returns-2 c = entry-no-body _ _ _ _ (sym (c .before .before .before .before .before .name .given .1) ∙ c .before .before .before .before .before .before .before .name-at .ensures) _ _ (sym (c .before .cause2 .given .1) ∙ c .before .before .before .text-at .ensures)
+returns-2 c =
+    let at-text-at = c .before .before .before in
+    let at-name = at-text-at .before .before in
+    let at-name-at = at-name .before .before in
+    entry-no-body _ _ _ _ (sym (at-name .name .given .1) ∙ at-name-at .name-at .ensures) _ _
+    (sym (c .before .cause2 .given .1) ∙ at-text-at .text-at .ensures)
 
 returns-3 : tie.Need-returns-3
-returns-3 c = entry-whole _ _ _ _ (sym (c .before .before .before .before .before .name .given .1) ∙ c .before .before .before .before .before .before .before .name-at .ensures) _ _ (sym (c .before .body .given .1) ∙ c .before .before .before .text-at .ensures)
+returns-3 c =
+    let at-text-at = c .before .before .before in
+    let at-name = at-text-at .before .before in
+    let at-name-at = at-name .before .before in
+    entry-whole _ _ _ _ (sym (at-name .name .given .1) ∙ at-name-at .name-at .ensures) _ _
+    (sym (c .before .body .given .1) ∙ at-text-at .text-at .ensures)
 
 pub entry-at-spec : {M : Type 1} → statement M
 entry-at-spec =
     tie.close
-    (tie.spec
-    name-at-requires
-    enum-known-cause
-    enum-known-name
-    text-at-requires
-    enum-known-cause-2
-    enum-known-body
-    returns
-    returns-2
-    returns-3)
+    (tie.spec (λ c κs. search needs) (λ c. search needs) (λ c. search needs) (λ c κs. search needs)
+    (λ c. search needs) (λ c. search needs) returns returns-2 returns-3)

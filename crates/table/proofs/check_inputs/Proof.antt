@@ -2,18 +2,12 @@ use Rattle.table.proofs.Whole.{too-many, not-too-many}
 use borrow.Author.Needs.{needs}
 use Rattle.table.proofs.check_inputs.Statement.{statement}
 use Rattle.table.proofs.check_inputs.Tie as tie
-use Rattle.table.proofs.check_inputs.Reads as reads
-use Rattle.table.proofs.check_inputs.Lts as lts
-use Rattle.table.proofs.look.Reads as look-reads
 
 returns : tie.Need-returns
 returns c = too-many _ _ (c .if1 .taken)
-
-look-requires : tie.Need-look-requires
-look-requires c κs = search needs
 
 returns-2 : tie.Need-returns-2
 returns-2 c = not-too-many _ _ _ (c .before .if1 .left) (c .look .ensures .0)
 
 pub check-inputs-spec : {M : Type 1} → statement M
-check-inputs-spec = tie.close (tie.spec returns look-requires returns-2)
+check-inputs-spec = tie.close (tie.spec returns (λ c κs. search needs) returns-2)

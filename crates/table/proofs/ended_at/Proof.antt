@@ -1,8 +1,6 @@
 use Rattle.table.proofs.FirstLook.{some-left, none-left}
 use Rattle.table.proofs.ended_at.Statement.{statement}
 use Rattle.table.proofs.ended_at.Tie as tie
-use Rattle.table.proofs.ended_at.Reads as reads
-use Rattle.table.proofs.ended_at.Lts as lts
 
 returns : tie.Need-returns
 returns c = some-left _ _ _ (c .if1 .taken)

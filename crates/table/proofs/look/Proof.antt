@@ -6,15 +6,6 @@ use Rattle.table.proofs.FirstLook.{Looks, begins, skipped, stops, passe
 use borrow.Author.Needs.{needs}
 use Rattle.table.proofs.look.Statement.{statement}
 use Rattle.table.proofs.look.Tie as tie
-use Rattle.table.proofs.look.Reads as reads
-use Rattle.table.proofs.look.Lts as lts
-use Rattle.coding.proofs.number_at.Reads as number-at-reads
-use Rattle.coding.proofs.size_at.Reads as size-at-reads
-use Rattle.ranges.proofs.advance.Reads as advance-reads
-use Rattle.table.proofs.ended_at.Reads as ended-at-reads
-use Rattle.table.proofs.note.Reads as note-reads
-use Rattle.table.proofs.role_of.Reads as role-of-reads
-use Rattle.table.proofs.skips.skip.Reads as skip-reads
 
 abbrev Inv-loop : tie.InvT-loop
 Inv-loop most from-bytes code numbers size counts₀ want₀ at₀ n₀ counts want at n = Looks most from-bytes code numbers want₀ counts want at n
@@ -22,94 +13,90 @@ Inv-loop most from-bytes code numbers size counts₀ want₀ at₀ n₀ counts w
 abbrev μ-loop : tie.MeasureT-loop
 μ-loop most from-bytes code numbers size counts₀ want₀ at₀ n₀ counts want at n = sourceSize from-bytes code numbers - at
 
-size-at-requires : tie.Need-size-at-requires Inv-loop μ-loop
-size-at-requires c κs = search needs
-
 loop-holds : tie.Need-loop-holds Inv-loop μ-loop
 loop-holds c = begins _ _ _ _ _
 
-skip-requires : tie.Need-skip-requires Inv-loop μ-loop
-skip-requires c κs = search needs
-
-number-at-requires : tie.Need-number-at-requires Inv-loop μ-loop
-number-at-requires c κs = search needs
-
-enum-known-cause : tie.Need-enum-known-cause Inv-loop μ-loop
-enum-known-cause c = search needs
-
 returns : tie.Need-returns Inv-loop μ-loop
-returns c = stops (skipped (c .before .before .before .before .before .loop .inv) (c .before .before .before .before .skip .ensures)) _ _ (sym (c .before .cause .given .1) ∙ c .before .before .before .number-at .ensures)
-
-enum-known-v : tie.Need-enum-known-v Inv-loop μ-loop
-enum-known-v c = search needs
-
-advance-requires : tie.Need-advance-requires Inv-loop μ-loop
-advance-requires c κs = search needs
-
-enum-told : tie.Need-enum-told Inv-loop μ-loop
-enum-told c = search needs
+returns c =
+    let at-number-at = c .before .before .before in
+    let at-skip = at-number-at .before in
+    let at-loop = at-skip .before in
+    stops (skipped (at-loop .loop .inv) (at-skip .skip .ensures)) _ _ (sym (c .before .cause .given .1) ∙ at-number-at .number-at .ensures)
 
 returns-2 : tie.Need-returns-2 Inv-loop μ-loop
-returns-2 c = refuses (skipped (c .before .before .before .before .before .before .before .before .loop .inv) (c .before .before .before .before .before .before .before .skip .ensures)) _ _ (sym (c .before .before .before .before .v .given .1) ∙ c .before .before .before .before .before .before .number-at .ensures) (sym (c .enum-told .given .1) ∙ c .before .before .advance .ensures)
-
-enum-told-2 : tie.Need-enum-told-2 Inv-loop μ-loop
-enum-told-2 c = search needs
+returns-2 c =
+    let at-v = c .before .before .before .before in
+    let at-number-at = at-v .before .before in
+    let at-skip = at-number-at .before in
+    let at-loop = at-skip .before in
+    refuses (skipped (at-loop .loop .inv) (at-skip .skip .ensures)) _ _ (sym (at-v .v .given .1) ∙ at-number-at .number-at .ensures)
+    (sym (c .enum-told .given .1) ∙ c .before .before .advance .ensures)
 
 add-ended-at : tie.Need-add-ended-at Inv-loop μ-loop
-add-ended-at c = omega (arith, passes (skipped (c .before .before .before .before .before .before .before .before .loop .inv) (c .before .before .before .before .before .before .before .skip .ensures)) _ _ (sym (c .before .before .before .before .v .given .1) ∙ c .before .before .before .before .before .before .number-at .ensures))
-
-ended-at-requires : tie.Need-ended-at-requires Inv-loop μ-loop
-ended-at-requires c κs = search needs
+add-ended-at c =
+    let at-v = c .before .before .before .before in
+    let at-skip = at-v .before .before .before in
+    omega (
+      arith,
+      passes (skipped (at-skip .before .loop .inv) (at-skip .skip .ensures)) _ _
+          (sym (at-v .v .given .1) ∙ at-v .before .before .number-at .ensures),
+    )
 
 returns-3 : tie.Need-returns-3 Inv-loop μ-loop
-returns-3 c = finishes (skipped (c .before .before .before .before .before .before .before .before .before .loop .inv) (c .before .before .before .before .before .before .before .before .skip .ensures)) _ _ (sym (c .before .before .before .before .before .v .given .1) ∙ c .before .before .before .before .before .before .before .number-at .ensures) _ _ (c .before .before .before .before .before .before .before .before .before .before .size-at .ensures) (c .ended-at .ensures) (sym (c .before .enum-told2 .given .1) ∙ c .before .before .before .advance .ensures)
-
-enum-known-more : tie.Need-enum-known-more Inv-loop μ-loop
-enum-known-more c = search needs
-
-role-of-requires : tie.Need-role-of-requires Inv-loop μ-loop
-role-of-requires c κs = search needs
+returns-3 c =
+    let at-advance = c .before .before .before in
+    let at-v = at-advance .before .before in
+    let at-number-at = at-v .before .before in
+    let at-skip = at-number-at .before in
+    let at-loop = at-skip .before in
+    let at-size-at = at-loop .before in
+    finishes (skipped (at-loop .loop .inv) (at-skip .skip .ensures)) _ _ (sym (at-v .v .given .1) ∙ at-number-at .number-at .ensures) _ _
+    (at-size-at .size-at .ensures) (c .ended-at .ensures) (sym (c .before .enum-told2 .given .1) ∙ at-advance .advance .ensures)
 
 slice-aggregate-note : tie.Need-slice-aggregate-note Inv-loop μ-loop
-slice-aggregate-note c = sym (c .before .before .before .before .before .before .before .before .before .before .before .loop .inv .room)
-
-note-requires : tie.Need-note-requires Inv-loop μ-loop
-note-requires c κs = search needs
+slice-aggregate-note c =
+    let at-loop = c .before .before .before .before .before .before .before .before .before .before .before in
+    sym (at-loop .loop .inv .room)
 
 add-n : tie.Need-add-n Inv-loop μ-loop
-add-n c = omega (arith, passes (skipped (c .before .before .before .before .before .before .before .before .before .before .before .before .before .loop .inv) (c .before .before .before .before .before .before .before .before .before .before .before .before .skip .ensures)) _ _ (sym (c .before .before .before .before .before .before .before .before .before .v .given .1) ∙ c .before .before .before .before .before .before .before .before .before .before .before .number-at .ensures))
+add-n c =
+    let at-v = c .before .before .before .before .before .before .before .before .before in
+    let at-skip = at-v .before .before .before in
+    omega (
+      arith,
+      passes (skipped (at-skip .before .loop .inv) (at-skip .skip .ensures)) _ _
+          (sym (at-v .v .given .1) ∙ at-v .before .before .number-at .ensures),
+    )
 
 loop-less : tie.Need-loop-less Inv-loop μ-loop
-loop-less c = omega (arith, c .before .before .before .before .before .before .before .before .before .before .before .before .skip .ensures .later, passes (skipped (c .before .before .before .before .before .before .before .before .before .before .before .before .before .loop .inv) (c .before .before .before .before .before .before .before .before .before .before .before .before .skip .ensures)) _ _ (sym (c .before .before .before .before .before .before .before .before .before .v .given .1) ∙ c .before .before .before .before .before .before .before .before .before .before .before .number-at .ensures))
+loop-less c =
+    let at-v = c .before .before .before .before .before .before .before .before .before in
+    let at-skip = at-v .before .before .before in
+    omega (
+      arith,
+      at-skip .skip .ensures .later,
+      passes (skipped (at-skip .before .loop .inv) (at-skip .skip .ensures)) _ _
+          (sym (at-v .v .given .1) ∙ at-v .before .before .number-at .ensures),
+    )
 
 loop-again : tie.Need-loop-again Inv-loop μ-loop
-loop-again c = goes-on (skipped (c .before .before .before .before .before .before .before .before .before .before .before .before .before .loop .inv) (c .before .before .before .before .before .before .before .before .before .before .before .before .skip .ensures)) _ _ (sym (c .before .before .before .before .before .before .before .before .before .v .given .1) ∙ c .before .before .before .before .before .before .before .before .before .before .before .number-at .ensures) _ _ _ (sym (c .before .before .before .before .before .more .given .1) ∙ c .before .before .before .before .before .before .before .advance .ensures)
-    (c .before .before .before .role-of .ensures) (c .before .note .ensures) (c .before .note .kept .1 .1 .0)
+loop-again c =
+    let at-role-of = c .before .before .before in
+    let at-more = at-role-of .before .before in
+    let at-advance = at-more .before .before in
+    let at-v = at-advance .before .before in
+    let at-number-at = at-v .before .before in
+    let at-skip = at-number-at .before in
+    let at-loop = at-skip .before in
+    goes-on (skipped (at-loop .loop .inv) (at-skip .skip .ensures)) _ _ (sym (at-v .v .given .1) ∙ at-number-at .number-at .ensures) _ _ _
+    (sym (at-more .more .given .1) ∙ at-advance .advance .ensures)
+    (at-role-of .role-of .ensures) (c .before .note .ensures) (c .before .note .kept .1 .1 .0)
 
 pub look-spec : {M : Type 1} → statement M
 look-spec =
     tie.close
-    (tie.spec
-    Inv-loop
-    μ-loop
-    size-at-requires
-    loop-holds
-    skip-requires
-    number-at-requires
-    enum-known-cause
-    returns
-    enum-known-v
-    advance-requires
-    enum-told
-    returns-2
-    enum-told-2
-    add-ended-at
-    ended-at-requires
-    returns-3
-    enum-known-more
-    role-of-requires
-    slice-aggregate-note
-    note-requires
-    add-n
-    loop-less
-    loop-again)
+    (tie.spec Inv-loop μ-loop (λ c κs. search needs) loop-holds (λ c κs. search needs)
+    (λ c κs. search needs) (λ c. search needs) returns (λ c. search needs) (λ c κs. search needs)
+    (λ c. search needs) returns-2 (λ c. search needs) add-ended-at (λ c κs. search needs) returns-3
+    (λ c. search needs) (λ c κs. search needs) slice-aggregate-note (λ c κs. search needs) add-n
+    loop-less loop-again)

@@ -2,20 +2,6 @@ use Rattle.table.proofs.Roles.{others}
 use borrow.Author.Needs.{needs}
 use Rattle.table.proofs.role_of.Statement.{statement}
 use Rattle.table.proofs.role_of.Tie as tie
-use Rattle.table.proofs.role_of.Reads as reads
-use Rattle.table.proofs.role_of.Lts as lts
-
-enum-told : tie.Need-enum-told
-enum-told c = search needs
-
-enum-known-want : tie.Need-enum-known-want
-enum-known-want c = search needs
-
-enum-known-want-2 : tie.Need-enum-known-want-2
-enum-known-want-2 c = search needs
-
-enum-known-want-3 : tie.Need-enum-known-want-3
-enum-known-want-3 c = search needs
 
 returns : tie.Need-returns
 returns c = rw (c .enum-told .given .1)
@@ -35,13 +21,5 @@ returns-5 c = others (c .before .args .want) (c .match .keys5)
 pub role-of-spec : {M : Type 1} → statement M
 role-of-spec =
     tie.close
-    (tie.spec
-    enum-told
-    enum-known-want
-    enum-known-want-2
-    enum-known-want-3
-    returns
-    returns-2
-    returns-3
-    returns-4
-    returns-5)
+    (tie.spec (λ c. search needs) (λ c. search needs) (λ c. search needs) (λ c. search needs)
+    returns returns-2 returns-3 returns-4 returns-5)

@@ -3,32 +3,16 @@ use Rattle.table.proofs.Whole.{writes}
 use borrow.Author.Needs.{needs}
 use Rattle.table.proofs.write_inputs.Statement.{statement}
 use Rattle.table.proofs.write_inputs.Tie as tie
-use Rattle.table.proofs.write_inputs.Reads as reads
-use Rattle.table.proofs.write_inputs.Lts as lts
-use Rattle.coding.proofs.write_checked.Reads as write-checked-reads
-use Rattle.table.proofs.check_inputs.Reads as check-inputs-reads
-
-slice-aggregate-check-inputs : tie.Need-slice-aggregate-check-inputs
-slice-aggregate-check-inputs c = search needs
-
-check-inputs-requires : tie.Need-check-inputs-requires
-check-inputs-requires c κs = search needs
-
-write-checked-requires : tie.Need-write-checked-requires
-write-checked-requires c κs = search needs
-
-same-length : tie.Need-same-length
-same-length c = search needs
 
 returns : tie.Need-returns
-returns c = writes (inputsGrammar (c .before .before .before .before .before .before .before .before .args .inputs)) _ _ _ _ _ _ (c .before .before .before .before .check-inputs .ensures) (c .before .before .write-checked .ensures)
+returns c =
+    let at-check-inputs = c .before .before .before .before in
+    let at-start = at-check-inputs .before .before .before .before in
+    writes (inputsGrammar (at-start .args .inputs)) _ _ _ _ _ _ (at-check-inputs .check-inputs .ensures)
+    (c .before .before .write-checked .ensures)
 
 pub write-inputs-spec : {M : Type 1} → statement M
 write-inputs-spec =
     tie.close
-    (tie.spec
-    slice-aggregate-check-inputs
-    check-inputs-requires
-    write-checked-requires
-    same-length
+    (tie.spec (λ c. search needs) (λ c κs. search needs) (λ c κs. search needs) (λ c. search needs)
     returns)

@@ -4,32 +4,14 @@ use Rattle.table.proofs.Whole.{writes}
 use borrow.Author.Needs.{needs}
 use Rattle.table.proofs.write_table.Statement.{statement}
 use Rattle.table.proofs.write_table.Tie as tie
-use Rattle.table.proofs.write_table.Reads as reads
-use Rattle.table.proofs.write_table.Lts as lts
-use Rattle.coding.proofs.write_checked.Reads as write-checked-reads
-use Rattle.table.proofs.check_table.Reads as check-table-reads
-
-slice-aggregate-check-table : tie.Need-slice-aggregate-check-table
-slice-aggregate-check-table c = search needs
-
-check-table-requires : tie.Need-check-table-requires
-check-table-requires c κs = search needs
-
-write-checked-requires : tie.Need-write-checked-requires
-write-checked-requires c κs = search needs
-
-same-length : tie.Need-same-length
-same-length c = search needs
 
 returns : tie.Need-returns
-returns c = writes (tableGrammar mostProcesses) _ _ _ _ _ _ (c .before .before .before .before .check-table .ensures) (c .before .before .write-checked .ensures)
+returns c =
+    let at-check-table = c .before .before .before .before in
+    writes (tableGrammar mostProcesses) _ _ _ _ _ _ (at-check-table .check-table .ensures) (c .before .before .write-checked .ensures)
 
 pub write-table-spec : {M : Type 1} → statement M
 write-table-spec =
     tie.close
-    (tie.spec
-    slice-aggregate-check-table
-    check-table-requires
-    write-checked-requires
-    same-length
+    (tie.spec (λ c. search needs) (λ c κs. search needs) (λ c κs. search needs) (λ c. search needs)
     returns)

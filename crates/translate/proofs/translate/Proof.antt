@@ -6,40 +6,22 @@ use Rattle.translate.proofs.translate.Tie as tie
 returns : tie.Need-returns
 returns c = too-short _ _ (c .if1 .taken)
 
-slice-aggregate-check : tie.Need-slice-aggregate-check
-slice-aggregate-check c = search needs
-
-check-requires : tie.Need-check-requires
-check-requires c κs = search needs
-
-enum-known-cause : tie.Need-enum-known-cause
-enum-known-cause c = search needs
-
-enum-known-depth : tie.Need-enum-known-depth
-enum-known-depth c = search needs
-
-translate-node-requires : tie.Need-translate-node-requires
-translate-node-requires c κs = search needs
-
 returns-2 : tie.Need-returns-2
-returns-2 c = not-read _ _ (c .before .before .before .before .before .if1 .left) _ _ (c .before .before .before .check .ensures) _ _ (c .before .cause .given .1)
-
-same-length : tie.Need-same-length
-same-length c = search needs
+returns-2 c =
+    let at-check = c .before .before .before in
+    let at-if1 = at-check .before .before in
+    not-read _ _ (at-if1 .if1 .left) _ _ (at-check .check .ensures) _ _ (c .before .cause .given .1)
 
 returns-3 : tie.Need-returns-3
-returns-3 c = was-read _ _ (c .before .before .before .before .before .before .before .before .before .if1 .left) _ _ (c .before .before .before .before .before .before .before .check .ensures) _ _ (c .before .before .before .before .before .depth .given .1) _ (c .before .before .translate-node .result) (c .before .before .translate-node .ensures .0)
+returns-3 c =
+    let at-depth = c .before .before .before .before .before in
+    let at-check = at-depth .before .before in
+    let at-if1 = at-check .before .before in
+    was-read _ _ (at-if1 .if1 .left) _ _ (at-check .check .ensures) _ _ (at-depth .depth .given .1) _
+    (c .before .before .translate-node .result) (c .before .before .translate-node .ensures .0)
 
 pub translate-spec : {M : Type 1} → statement M
 translate-spec =
     tie.close
-    (tie.spec
-    returns
-    slice-aggregate-check
-    check-requires
-    enum-known-cause
-    enum-known-depth
-    translate-node-requires
-    returns-2
-    same-length
-    returns-3)
+    (tie.spec returns (λ c. search needs) (λ c κs. search needs) (λ c. search needs)
+    (λ c. search needs) (λ c κs. search needs) returns-2 (λ c. search needs) returns-3)

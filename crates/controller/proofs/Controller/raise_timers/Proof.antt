@@ -8,12 +8,10 @@ use Rattle.controller.proofs.Raising.{made, made-at, made-next, made-al
 use borrow.Author.Needs.{needs}
 use Rattle.controller.proofs.Controller.raise_timers.Statement.{statement}
 use Rattle.controller.proofs.Controller.raise_timers.Tie as tie
-use Rattle.controller.proofs.Controller.raise_timers.Reads as reads
-use Rattle.controller.proofs.Controller.raise_timers.Lts as lts
-use Rattle.controller.proofs.rules.raised.Reads as raised-reads
 
 abbrev Inv-loop : tie.InvT-loop
-Inv-loop c₀ at₀ c at = (c ≡ record { variables = c₀ .variables; processes = made raised at (c₀ .processes) (c₀ .processes); counter = c₀ .counter }) × (at ≤ 8)
+Inv-loop c₀ at₀ c at =
+    (c ≡ record { variables = c₀ .variables; processes = made raised at (c₀ .processes) (c₀ .processes); counter = c₀ .counter }) × (at ≤ 8)
 
 abbrev μ-loop : tie.MeasureT-loop
 μ-loop c₀ at₀ c at = 8 - at
@@ -26,9 +24,6 @@ mul-p c = omega arith
 
 element-copy-out-p : tie.Need-element-copy-out-p Inv-loop μ-loop
 element-copy-out-p c = omega arith
-
-raised-requires : tie.Need-raised-requires Inv-loop μ-loop
-raised-requires c κs = search needs
 
 mul-t6 : tie.Need-mul-t6 Inv-loop μ-loop
 mul-t6 c = omega arith
@@ -43,9 +38,12 @@ loop-less : tie.Need-loop-less Inv-loop μ-loop
 loop-less c = omega arith
 
 loop-again : tie.Need-loop-again Inv-loop μ-loop
-loop-again c = let n : length (c .before .before .before .before .args .self .processes) ≡ 8 = search (needs, mapped) in
-    let h : c .before .before .before .loop .at < length (c .before .before .before .before .args .self .processes) = omega arith in
-    (rw (c .raised .ensures, c .before .before .before .loop .inv .0, made-at, made-next raised _ _ _ _ h h) refl, omega arith)
+loop-again c =
+    let at-loop = c .before .before .before in
+    let at-start = at-loop .before in
+    let n : length (at-start .args .self .processes) ≡ 8 = search (needs, mapped) in
+    let h : at-loop .loop .at < length (at-start .args .self .processes) = omega arith in
+    (rw (c .raised .ensures, at-loop .loop .inv .0, made-at, made-next raised _ _ _ _ h h) refl, omega arith)
 
 returns : tie.Need-returns Inv-loop μ-loop
 unfolding allRaised
@@ -56,16 +54,5 @@ returns c = let n : length (c .before .before .args .self .processes) ≡ 8 = se
 pub raise-timers-spec : {M : Type 1} → statement M
 raise-timers-spec =
     tie.close
-    (tie.spec
-    Inv-loop
-    μ-loop
-    loop-holds
-    mul-p
-    element-copy-out-p
-    raised-requires
-    mul-t6
-    element-set-from-c
-    add-at
-    loop-less
-    loop-again
-    returns)
+    (tie.spec Inv-loop μ-loop loop-holds mul-p element-copy-out-p (λ c κs. search needs) mul-t6
+    element-set-from-c add-at loop-less loop-again returns)

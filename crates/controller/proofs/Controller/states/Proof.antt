@@ -9,8 +9,6 @@ use Rattle.controller.proofs.Raising.{made, made-next, made-all}
 use borrow.Author.Needs.{needs}
 use Rattle.controller.proofs.Controller.states.Statement.{statement}
 use Rattle.controller.proofs.Controller.states.Tie as tie
-use Rattle.controller.proofs.Controller.states.Reads as reads
-use Rattle.controller.proofs.Controller.states.Lts as lts
 
 abbrev Inv-loop : tie.InvT-loop
 Inv-loop self states₀ at₀ states at = (states ≡ made (λ (p : Process). p .state) at (self .processes) (replicate 8 0)) × (at ≤ 8)
@@ -21,47 +19,26 @@ abbrev μ-loop : tie.MeasureT-loop
 loop-holds : tie.Need-loop-holds Inv-loop μ-loop
 loop-holds c = (refl, omega arith)
 
-mul-p : tie.Need-mul-p Inv-loop μ-loop
-mul-p c = search needs
-
-element-copy-out-p : tie.Need-element-copy-out-p Inv-loop μ-loop
-element-copy-out-p c = search needs
-
-mul-states : tie.Need-mul-states Inv-loop μ-loop
-mul-states c = search needs
-
-array-write-states : tie.Need-array-write-states Inv-loop μ-loop
-array-write-states c = search needs
-
-add-at : tie.Need-add-at Inv-loop μ-loop
-add-at c = search needs
-
-loop-less : tie.Need-loop-less Inv-loop μ-loop
-loop-less c = search needs
-
 loop-again : tie.Need-loop-again Inv-loop μ-loop
-loop-again c = let n : length (c .before .before .before .args .t1 .processes) ≡ 8 = search (needs, mapped) in
-    let h : c .before .before .loop .at < length (c .before .before .before .args .t1 .processes) = omega arith in
+loop-again c =
+    let at-start = c .before .before .before in
+    let n : length (at-start .args .t1 .processes) ≡ 8 = search (needs, mapped) in
+    let h : c .before .before .loop .at < length (at-start .args .t1 .processes) = omega arith in
     (rw (c .before .before .loop .inv .0, made-next (λ (p : Process). p .state) _ _ (replicate 8 0) _ h (omega arith)) refl, omega arith)
 
 returns : tie.Need-returns Inv-loop μ-loop
 unfolding statesOf
-returns c = let n : length (c .before .before .args .t1 .processes) ≡ 8 = search (needs, mapped) in
+returns c =
+    let n : length (c .before .before .args .t1 .processes) ≡ 8 = search (needs, mapped) in
     let h : length (c .before .before .args .t1 .processes) ≤ c .before .loop .at = omega arith in
-    rw (c .before .loop .inv .0, made-all (λ (p : Process). p .state) _ (c .before .before .args .t1 .processes) (replicate 8 0) (omega arith) h) refl
+    rw (
+      c .before .loop .inv .0,
+      made-all (λ (p : Process). p .state) _ (c .before .before .args .t1 .processes) (replicate 8 0) (omega arith) h,
+    ) refl
 
 pub states-spec : {M : Type 1} → statement M
 states-spec =
     tie.close
-    (tie.spec
-    Inv-loop
-    μ-loop
-    loop-holds
-    mul-p
-    element-copy-out-p
-    mul-states
-    array-write-states
-    add-at
-    loop-less
-    loop-again
+    (tie.spec Inv-loop μ-loop loop-holds (λ c. search needs) (λ c. search needs)
+    (λ c. search needs) (λ c. search needs) (λ c. search needs) (λ c. search needs) loop-again
     returns)

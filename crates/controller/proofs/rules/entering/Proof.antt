@@ -1,10 +1,7 @@
 use mathlib.Core.Path.{refl}
 use Rattle.controller.specs.State.{entering}
-use borrow.Author.Needs.{needs}
 use Rattle.controller.proofs.rules.entering.Statement.{statement}
 use Rattle.controller.proofs.rules.entering.Tie as tie
-use Rattle.controller.proofs.rules.entering.Reads as reads
-use Rattle.controller.proofs.rules.entering.Lts as lts
 
 returns : tie.Need-returns
 unfolding entering

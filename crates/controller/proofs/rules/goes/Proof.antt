@@ -1,10 +1,7 @@
 use mathlib.Core.Path.{refl}
 use Rattle.controller.specs.State.{goes}
-use borrow.Author.Needs.{needs}
 use Rattle.controller.proofs.rules.goes.Statement.{statement}
 use Rattle.controller.proofs.rules.goes.Tie as tie
-use Rattle.controller.proofs.rules.goes.Reads as reads
-use Rattle.controller.proofs.rules.goes.Lts as lts
 
 returns : tie.Need-returns
 unfolding goes

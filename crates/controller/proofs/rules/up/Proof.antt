@@ -1,14 +1,8 @@
-use native.Mathlib.Omega.{arith}
 use borrow.Author.Tests.{lt-ltb, le-ltb}
 use Rattle.controller.specs.State.{up}
 use borrow.Author.Needs.{needs}
 use Rattle.controller.proofs.rules.up.Statement.{statement}
 use Rattle.controller.proofs.rules.up.Tie as tie
-use Rattle.controller.proofs.rules.up.Reads as reads
-use Rattle.controller.proofs.rules.up.Lts as lts
-
-add-result : tie.Need-add-result
-add-result c = search needs
 
 returns : tie.Need-returns
 unfolding up
@@ -19,4 +13,4 @@ unfolding up
 returns-2 c = rw (le-ltb _ _ (c .if1 .left))
 
 pub up-spec : {M : Type 1} → statement M
-up-spec = tie.close (tie.spec add-result returns returns-2)
+up-spec = tie.close (tie.spec (λ c. search needs) returns returns-2)

@@ -5,14 +5,6 @@ use Rattle.controller.proofs.Arrays.{inside, outside}
 use borrow.Author.Needs.{needs}
 use Rattle.controller.proofs.rules.value_at.Statement.{statement}
 use Rattle.controller.proofs.rules.value_at.Tie as tie
-use Rattle.controller.proofs.rules.value_at.Reads as reads
-use Rattle.controller.proofs.rules.value_at.Lts as lts
-
-mul-result : tie.Need-mul-result
-mul-result c = search needs
-
-array-read-result : tie.Need-array-read-result
-array-read-result c = search needs
 
 returns : tie.Need-returns
 unfolding valueAt
@@ -25,4 +17,4 @@ returns-2 c = let n : length (c .before .args .t1) ≡ 32 = search needs in
     outside (c .before .args .t1) _ _ 32 n (c .if1 .left)
 
 pub value-at-spec : {M : Type 1} → statement M
-value-at-spec = tie.close (tie.spec mul-result array-read-result returns returns-2)
+value-at-spec = tie.close (tie.spec (λ c. search needs) (λ c. search needs) returns returns-2)

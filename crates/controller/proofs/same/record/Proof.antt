@@ -1,11 +1,8 @@
 use mathlib.Core.Path.{refl}
 use borrow.Author.Tests.{eq-eqb, ne-eqb}
 use Rattle.controller.specs.Same.{sameRecord}
-use borrow.Author.Needs.{needs}
 use Rattle.controller.proofs.same.record.Statement.{statement}
 use Rattle.controller.proofs.same.record.Tie as tie
-use Rattle.controller.proofs.same.record.Reads as reads
-use Rattle.controller.proofs.same.record.Lts as lts
 
 returns : tie.Need-returns
 unfolding sameRecord

@@ -12,8 +12,6 @@ use Rattle.controller.proofs.Alike.{no-values, a-value}
 use borrow.Author.Needs.{needs}
 use Rattle.controller.proofs.same.values.Statement.{statement}
 use Rattle.controller.proofs.same.values.Tie as tie
-use Rattle.controller.proofs.same.values.Reads as reads
-use Rattle.controller.proofs.same.values.Lts as lts
 
 abbrev Inv-loop : tie.InvT-loop
 Inv-loop v w same₀ at₀ same at = ((same && sameValues (drop at v) (drop at w)) ≡ sameValues v w) × (at ≤ 32)
@@ -24,31 +22,19 @@ abbrev μ-loop : tie.MeasureT-loop
 loop-holds : tie.Need-loop-holds Inv-loop μ-loop
 loop-holds c = (refl, omega arith)
 
-mul-if1 : tie.Need-mul-if1 Inv-loop μ-loop
-mul-if1 c = search needs
-
-array-read-if1 : tie.Need-array-read-if1 Inv-loop μ-loop
-array-read-if1 c = search needs
-
-mul-if1-2 : tie.Need-mul-if1-2 Inv-loop μ-loop
-mul-if1-2 c = search needs
-
-array-read-if1-2 : tie.Need-array-read-if1-2 Inv-loop μ-loop
-array-read-if1-2 c = search needs
-
-add-at : tie.Need-add-at Inv-loop μ-loop
-add-at c = search needs
-
-loop-less : tie.Need-loop-less Inv-loop μ-loop
-loop-less c = search needs
-
 loop-again : tie.Need-loop-again Inv-loop μ-loop
 loop-again c =
-    let n : length (c .before .before .before .args .t1) ≡ 32 = search needs in
-    let m : length (c .before .before .before .args .t2) ≡ 32 = search needs in
+    let at-start = c .before .before .before in
+    let n : length (at-start .args .t1) ≡ 32 = search needs in
+    let m : length (at-start .args .t2) ≡ 32 = search needs in
     let i = c .before .before .loop .inv .0 in (
-      ⊎-elim (λ w. rw (w .1) (no-more-alike eqb sameValues no-values a-value (c .before .before .before .args .t1) (c .before .before .before .args .t2) 0 (c .before .before .loop .at) (omega arith) (omega arith) (c .before .before .loop .same) (ne-eqb _ _ (w .0 .taken)) i))
-          (λ w. rw (w .1) (still-alike eqb sameValues no-values a-value (c .before .before .before .args .t1) (c .before .before .before .args .t2) 0 (c .before .before .loop .at) (omega arith) (omega arith) (c .before .before .loop .same) (eq-eqb _ _ (w .0 .left)) i)) (c .if1 .came),
+      ⊎-elim
+          (λ w. rw (w .1)
+          (no-more-alike eqb sameValues no-values a-value (at-start .args .t1) (at-start .args .t2) 0 (c .before .before .loop .at)
+          (omega arith) (omega arith) (c .before .before .loop .same) (ne-eqb _ _ (w .0 .taken)) i))
+          (λ w. rw (w .1)
+          (still-alike eqb sameValues no-values a-value (at-start .args .t1) (at-start .args .t2) 0 (c .before .before .loop .at)
+          (omega arith) (omega arith) (c .before .before .loop .same) (eq-eqb _ _ (w .0 .left)) i)) (c .if1 .came),
       omega arith,
     )
 
@@ -56,20 +42,12 @@ returns : tie.Need-returns Inv-loop μ-loop
 returns c =
     let n : length (c .before .before .args .t1) ≡ 32 = search needs in
     let m : length (c .before .before .args .t2) ≡ 32 = search needs in
-    all-looked-at eqb sameValues no-values a-value (c .before .loop .same) (c .before .before .args .t1) (c .before .before .args .t2) (c .before .loop .at) (omega arith) (omega arith) (c .before .loop .inv .0)
+    all-looked-at eqb sameValues no-values a-value (c .before .loop .same) (c .before .before .args .t1) (c .before .before .args .t2)
+    (c .before .loop .at) (omega arith) (omega arith) (c .before .loop .inv .0)
 
 pub values-spec : {M : Type 1} → statement M
 values-spec =
     tie.close
-    (tie.spec
-    Inv-loop
-    μ-loop
-    loop-holds
-    mul-if1
-    array-read-if1
-    mul-if1-2
-    array-read-if1-2
-    add-at
-    loop-less
-    loop-again
+    (tie.spec Inv-loop μ-loop loop-holds (λ c. search needs) (λ c. search needs)
+    (λ c. search needs) (λ c. search needs) (λ c. search needs) (λ c. search needs) loop-again
     returns)

@@ -1,11 +1,8 @@
 use mathlib.Core.Path.{refl}
 use borrow.Author.Tests.{eq-eqb, ne-eqb}
 use Rattle.controller.specs.Tests.{compares}
-use borrow.Author.Needs.{needs}
 use Rattle.controller.proofs.tests.compares.Statement.{statement}
 use Rattle.controller.proofs.tests.compares.Tie as tie
-use Rattle.controller.proofs.tests.compares.Reads as reads
-use Rattle.controller.proofs.tests.compares.Lts as lts
 
 returns : tie.Need-returns
 unfolding compares

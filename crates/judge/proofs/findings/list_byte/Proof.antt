@@ -6,10 +6,6 @@ use Rattle.judge.proofs.Listing.{Byte, byte-none, byte-skip, byte-put}
 use borrow.Author.Needs.{needs}
 use Rattle.judge.proofs.findings.list_byte.Statement.{statement}
 use Rattle.judge.proofs.findings.list_byte.Tie as tie
-use Rattle.judge.proofs.findings.list_byte.Reads as reads
-use Rattle.judge.proofs.findings.list_byte.Lts as lts
-use Rattle.judge.proofs.findings.put_position.Reads as put-position-reads
-use Rattle.judge.proofs.rows.bit.Reads as bit-reads
 
 abbrev Inv-loop : tie.InvT-loop
 Inv-loop row i list₀ place x at₀ k₀ list at k = Byte row i place list₀ at k list
@@ -17,36 +13,13 @@ Inv-loop row i list₀ place x at₀ k₀ list at k = Byte row i place list₀ a
 abbrev μ-loop : tie.MeasureT-loop
 μ-loop row i list₀ place x at₀ k₀ list at k = 8 - k
 
-shared-slice-read-x : tie.Need-shared-slice-read-x Inv-loop μ-loop
-shared-slice-read-x c = search needs
-
 loop-holds : tie.Need-loop-holds Inv-loop μ-loop
 loop-holds c = byte-none _ _ _ _ (omega arith)
 
-sub-bit : tie.Need-sub-bit Inv-loop μ-loop
-sub-bit c = search needs
-
-bit-requires : tie.Need-bit-requires Inv-loop μ-loop
-bit-requires c κs = search needs
-
-mul-put-position : tie.Need-mul-put-position Inv-loop μ-loop
-mul-put-position c = search needs
-
-add-put-position : tie.Need-add-put-position Inv-loop μ-loop
-add-put-position c = search needs
-
-put-position-requires : tie.Need-put-position-requires Inv-loop μ-loop
-put-position-requires c κs = search needs
-
-add-k : tie.Need-add-k Inv-loop μ-loop
-add-k c = search needs
-
-loop-less : tie.Need-loop-less Inv-loop μ-loop
-loop-less c = search needs
-
 loop-again : tie.Need-loop-again Inv-loop μ-loop
 loop-again c =
-    let h = c .before .before .before .loop .inv in
+    let at-loop = c .before .before .before in
+    let h = at-loop .loop .inv in
     let e = sym (c .before .bit .ensures) in
     ⊎-elim (λ w. rw (w .5, w .6) (byte-put h (omega arith) (e ∙ w .0 .taken) _ _ (w .2 .ensures)))
     (λ w. rw (w .1, w .2) (byte-skip h (omega arith) (e ∙ w .0 .left)))
@@ -64,18 +37,6 @@ returns c =
 pub list-byte-spec : {M : Type 1} → statement M
 list-byte-spec =
     tie.close
-    (tie.spec
-    Inv-loop
-    μ-loop
-    shared-slice-read-x
-    loop-holds
-    sub-bit
-    bit-requires
-    mul-put-position
-    add-put-position
-    put-position-requires
-    add-k
-    loop-less
-    loop-again
-    same-length
-    returns)
+    (tie.spec Inv-loop μ-loop (λ c. search needs) loop-holds (λ c. search needs)
+    (λ c κs. search needs) (λ c. search needs) (λ c. search needs) (λ c κs. search needs)
+    (λ c. search needs) (λ c. search needs) loop-again same-length returns)

@@ -1,11 +1,8 @@
 use mathlib.Core.Path.{refl}
 use native.Mathlib.Omega.{arith}
 use lib.Count.{ones-le}
-use borrow.Author.Needs.{needs}
 use Rattle.judge.proofs.findings.ones_of.Statement.{statement}
 use Rattle.judge.proofs.findings.ones_of.Tie as tie
-use Rattle.judge.proofs.findings.ones_of.Reads as reads
-use Rattle.judge.proofs.findings.ones_of.Lts as lts
 
 cast-result : tie.Need-cast-result
 cast-result c = omega (arith, ones-le 8 (c .args .x) (omega arith))

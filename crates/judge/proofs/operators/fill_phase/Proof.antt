@@ -4,44 +4,26 @@ use Rattle.judge.proofs.Composing.{place-inside, mark-fits, mark-is}
 use borrow.Author.Needs.{needs}
 use Rattle.judge.proofs.operators.fill_phase.Statement.{statement}
 use Rattle.judge.proofs.operators.fill_phase.Tie as tie
-use Rattle.judge.proofs.operators.fill_phase.Reads as reads
-use Rattle.judge.proofs.operators.fill_phase.Lts as lts
-use Rattle.judge.proofs.operators.mark_place.Reads as mark-place-reads
-use Rattle.judge.proofs.rows.copy_row.Reads as copy-row-reads
-
-add-row : tie.Need-add-row
-add-row c = search needs
-
-mark-place-requires : tie.Need-mark-place-requires
-mark-place-requires c κs = search needs
-
-sub-copy-row : tie.Need-sub-copy-row
-sub-copy-row c = search needs
 
 part-copy-row-start : tie.Need-part-copy-row-start
-part-copy-row-start c = place-inside (c .before .before .before .before .pre .0) (c .before .before .before .before .pre .2) (c .before .before .before .before .args .phase) (c .mark-place .ensures .0)
-
-part-copy-row-end : tie.Need-part-copy-row-end
-part-copy-row-end c = search needs
+part-copy-row-start c =
+    let at-start = c .before .before .before .before in
+    place-inside (at-start .pre .0) (at-start .pre .2) (at-start .args .phase) (c .mark-place .ensures .0)
 
 copy-row-requires : tie.Need-copy-row-requires
-copy-row-requires c κs = (mark-fits (c .before .before .before .before .before .before .pre .0) (c .before .before .before .before .before .before .pre .2) (c .before .before .before .before .before .before .args .phase) (c .before .before .mark-place .ensures .0), c .before .before .before .before .before .before .pre .1)
-
-same-length : tie.Need-same-length
-same-length c = search needs
+copy-row-requires c κs =
+    let at-start = c .before .before .before .before .before .before in
+    (mark-fits (at-start .pre .0) (at-start .pre .2) (at-start .args .phase) (c .before .before .mark-place .ensures .0), at-start .pre .1)
 
 returns : tie.Need-returns
-returns c = λ p l. c .before .before .copy-row .ensures p (omega arith) ∙ mark-is (c .before .before .before .before .before .before .before .before .before .pre .0) (c .before .before .before .before .before .before .before .before .before .pre .2) (c .before .before .before .before .before .before .before .before .before .args .phase) (c .before .before .before .before .before .mark-place .ensures .0) p l
+returns c =
+    let at-mark-place = c .before .before .before .before .before in
+    let at-start = at-mark-place .before .before .before .before in
+    λ p l. c .before .before .copy-row .ensures p (omega arith)
+    ∙ mark-is (at-start .pre .0) (at-start .pre .2) (at-start .args .phase) (at-mark-place .mark-place .ensures .0) p l
 
 pub fill-phase-spec : {M : Type 1} → statement M
 fill-phase-spec =
     tie.close
-    (tie.spec
-    add-row
-    mark-place-requires
-    sub-copy-row
-    part-copy-row-start
-    part-copy-row-end
-    copy-row-requires
-    same-length
-    returns)
+    (tie.spec (λ c. search needs) (λ c κs. search needs) (λ c. search needs) part-copy-row-start
+    (λ c. search needs) copy-row-requires (λ c. search needs) returns)

@@ -5,34 +5,32 @@ use Rattle.judge.proofs.Composing.{row-fits, second-room, second-was, s
 use borrow.Author.Needs.{needs}
 use Rattle.judge.proofs.operators.keep_second.Statement.{statement}
 use Rattle.judge.proofs.operators.keep_second.Tie as tie
-use Rattle.judge.proofs.operators.keep_second.Reads as reads
-use Rattle.judge.proofs.operators.keep_second.Lts as lts
-use Rattle.judge.proofs.operators.keep.Reads as keep-reads
-
-add-row : tie.Need-add-row
-add-row c = search needs
-
-sub-keep : tie.Need-sub-keep
-sub-keep c = search needs
 
 part-keep-start : tie.Need-part-keep-start
-part-keep-start c = row-fits (c .before .before .before .pre .0)
-
-part-keep-end : tie.Need-part-keep-end
-part-keep-end c = search needs
+part-keep-start c =
+    let at-start = c .before .before .before in
+    row-fits (at-start .pre .0)
 
 keep-requires : tie.Need-keep-requires
-keep-requires c κs = (second-room (c .before .before .before .before .pre .0), c .before .before .before .before .pre .1)
+keep-requires c κs =
+    let at-start = c .before .before .before .before in
+    (second-room (at-start .pre .0), at-start .pre .1)
 
 same-length : tie.Need-same-length
-same-length c = second-length (c .before .before .before .before .before .before .before .pre .0) (c .before .before .keep .last .1 .1 .1 .1 .0) (c .before .before .keep .kept .1 .1 .1 .1 .0)
+same-length c =
+    let at-start = c .before .before .before .before .before .before .before in
+    second-length (at-start .pre .0) (c .before .before .keep .last .1 .1 .1 .1 .0) (c .before .before .keep .kept .1 .1 .1 .1 .0)
 
 returns : tie.Need-returns
-returns c = let a = c .before .before .before .before .before .before .before .args in
-    let h = c .before .before .before .before .before .before .before .pre .0 in
-    second-back h _ _ (c .before .before .keep .kept .1 .1 .1 .1 .0) (λ p l. c .before .before .keep .ensures p l ∙ ap (λ (b : Bool). b && isAt a.trace.now a.phase p) (second-was h p l))
+returns c =
+    let at-start = c .before .before .before .before .before .before .before in
+    let a = at-start .args in
+    let h = at-start .pre .0 in
+    second-back h _ _ (c .before .before .keep .kept .1 .1 .1 .1 .0)
+    (λ p l. c .before .before .keep .ensures p l ∙ ap (λ (b : Bool). b && isAt a.trace.now a.phase p) (second-was h p l))
 
 pub keep-second-spec : {M : Type 1} → statement M
 keep-second-spec =
     tie.close
-    (tie.spec add-row sub-keep part-keep-start part-keep-end keep-requires same-length returns)
+    (tie.spec (λ c. search needs) (λ c. search needs) part-keep-start (λ c. search needs)
+    keep-requires same-length returns)

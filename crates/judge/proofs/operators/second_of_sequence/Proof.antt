@@ -4,28 +4,41 @@ use Rattle.judge.specs.Working.{isAt}
 use Rattle.judge.proofs.Composing.{after-below, until-of, as-long, one-row}
 use Rattle.judge.proofs.operators.second_of_sequence.Statement.{statement}
 use Rattle.judge.proofs.operators.second_of_sequence.Tie as tie
-use Rattle.judge.proofs.operators.second_of_sequence.Reads as reads
-use Rattle.judge.proofs.operators.second_of_sequence.Lts as lts
-use Rattle.judge.proofs.operators.next.Reads as next-reads
-use Rattle.judge.proofs.operators.reach.Reads as reach-reads
 
 reach-requires : tie.Need-reach-requires
-reach-requires c κs = c .before .before .before .before .pre
+reach-requires c κs =
+    let at-start = c .before .before .before .before in
+    at-start .pre
 
 next-requires : tie.Need-next-requires
-next-requires c κs = one-row (c .before .before .before .before .before .before .before .before .pre .0) (c .before .before .before .reach .kept .1 .1 .1 .1 .0)
+next-requires c κs =
+    let at-reach = c .before .before .before in
+    let at-start = at-reach .before .before .before .before .before in
+    one-row (at-start .pre .0) (at-reach .reach .kept .1 .1 .1 .1 .0)
 
 reach-requires-2 : tie.Need-reach-requires-2
-reach-requires-2 c κs = (as-long (c .before .before .before .before .before .before .before .before .before .before .before .before .pre .0) (c .before .before .before .next .kept .1 .1 .0 ∙ c .before .before .before .before .before .before .before .reach .kept .1 .1 .1 .1 .0), c .before .before .before .before .before .before .before .before .before .before .before .before .pre .1)
+reach-requires-2 c κs =
+    let at-next = c .before .before .before in
+    let at-reach = at-next .before .before .before .before in
+    let at-start = at-reach .before .before .before .before .before in
+    (as-long (at-start .pre .0) (at-next .next .kept .1 .1 .0 ∙ at-reach .reach .kept .1 .1 .1 .1 .0), at-start .pre .1)
 
 same-length : tie.Need-same-length
-same-length c = c .before .before .reach2 .kept .1 .1 .1 .1 .0 ∙ c .before .before .before .before .before .before .next .kept .1 .1 .0 ∙ c .before .before .before .before .before .before .before .before .before .before .reach .kept .1 .1 .1 .1 .0
+same-length c =
+    let at-next = c .before .before .before .before .before .before in
+    let at-reach = at-next .before .before .before .before in
+    c .before .before .reach2 .kept .1 .1 .1 .1 .0 ∙ at-next .next .kept .1 .1 .0 ∙ at-reach .reach .kept .1 .1 .1 .1 .0
 
 returns : tie.Need-returns
-returns c = let a = c .before .before .before .before .before .before .before .before .before .before .before .before .before .before .before .args in
-    let h = c .before .before .before .before .before .before .before .before .before .before .before .before .before .before .before .pre .0 in
+returns c =
+    let at-next = c .before .before .before .before .before .before in
+    let at-reach = at-next .before .before .before .before in
+    let at-start = at-reach .before .before .before .before .before in
+    let a = at-start .args in
+    let h = at-start .pre .0 in
     until-of h (c .before .before .reach2 .ensures) (λ q l. refl)
-    (λ q l. ap (λ (b : Bool). isAt a.trace.now a.first q && b) (c .before .before .before .before .before .before .next .ensures q l ∙ c .before .before .before .before .before .before .before .before .before .before .reach .ensures _ (after-below h q l)))
+    (λ q l. ap (λ (b : Bool). isAt a.trace.now a.first q && b)
+    (at-next .next .ensures q l ∙ at-reach .reach .ensures _ (after-below h q l)))
 
 pub second-of-sequence-spec : {M : Type 1} → statement M
 second-of-sequence-spec =

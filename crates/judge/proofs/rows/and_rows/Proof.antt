@@ -8,8 +8,6 @@ use Rattle.bits.proofs.Bytes.{packs-and, Made, made-none, made-more}
 use Rattle.judge.proofs.Packing.{packs-behind}
 use Rattle.judge.proofs.rows.and_rows.Statement.{statement}
 use Rattle.judge.proofs.rows.and_rows.Tie as tie
-use Rattle.judge.proofs.rows.and_rows.Reads as reads
-use Rattle.judge.proofs.rows.and_rows.Lts as lts
 
 abbrev Inv-loop : tie.InvT-loop
 Inv-loop work₀ n i₀ work i = (i ≤ n) × Made (λ p. bitAt work₀ p && bitAt (drop n work₀) p) work₀ i work
@@ -20,28 +18,12 @@ abbrev μ-loop : tie.MeasureT-loop
 loop-holds : tie.Need-loop-holds Inv-loop μ-loop
 loop-holds c = (omega arith, made-none _ _)
 
-slice-read-work : tie.Need-slice-read-work Inv-loop μ-loop
-slice-read-work c = search needs
-
-add-work : tie.Need-add-work Inv-loop μ-loop
-add-work c = search needs
-
-slice-read-work-2 : tie.Need-slice-read-work-2 Inv-loop μ-loop
-slice-read-work-2 c = search needs
-
-slice-write-work : tie.Need-slice-write-work Inv-loop μ-loop
-slice-write-work c = search needs
-
-add-i : tie.Need-add-i Inv-loop μ-loop
-add-i c = search needs
-
-loop-less : tie.Need-loop-less Inv-loop μ-loop
-loop-less c = search needs
-
 loop-again : tie.Need-loop-again Inv-loop μ-loop
 loop-again c =
-    let h = c .before .before .before .loop .inv .1 in
-    (omega arith, made-more _ (omega arith) (packs-and _ _ _ (omega arith) (packs-behind (c .before .before .before .before .args .n) h) h) h)
+    let at-loop = c .before .before .before in
+    let at-start = at-loop .before in
+    let h = at-loop .loop .inv .1 in
+    (omega arith, made-more _ (omega arith) (packs-and _ _ _ (omega arith) (packs-behind (at-start .args .n) h) h) h)
 
 same-length : tie.Need-same-length Inv-loop μ-loop
 same-length c = c .before .loop .inv .1 .size
@@ -52,16 +34,6 @@ returns c = λ p h. c .before .loop .inv .1 .done p (omega arith)
 pub and-rows-spec : {M : Type 1} → statement M
 and-rows-spec =
     tie.close
-    (tie.spec
-    Inv-loop
-    μ-loop
-    loop-holds
-    slice-read-work
-    add-work
-    slice-read-work-2
-    slice-write-work
-    add-i
-    loop-less
-    loop-again
-    same-length
-    returns)
+    (tie.spec Inv-loop μ-loop loop-holds (λ c. search needs) (λ c. search needs)
+    (λ c. search needs) (λ c. search needs) (λ c. search needs) (λ c. search needs) loop-again
+    same-length returns)

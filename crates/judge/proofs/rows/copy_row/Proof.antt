@@ -5,8 +5,6 @@ use Rattle.bits.proofs.Bytes.{packs-byte, Made, made-none, made-more}
 use borrow.Author.Needs.{needs}
 use Rattle.judge.proofs.rows.copy_row.Statement.{statement}
 use Rattle.judge.proofs.rows.copy_row.Tie as tie
-use Rattle.judge.proofs.rows.copy_row.Reads as reads
-use Rattle.judge.proofs.rows.copy_row.Lts as lts
 
 abbrev Inv-loop : tie.InvT-loop
 Inv-loop from work₀ n i₀ work i = (i ≤ n) × Made (bitAt from) work₀ i work
@@ -17,22 +15,11 @@ abbrev μ-loop : tie.MeasureT-loop
 loop-holds : tie.Need-loop-holds Inv-loop μ-loop
 loop-holds c = (omega arith, made-none _ _)
 
-shared-slice-read-work : tie.Need-shared-slice-read-work Inv-loop μ-loop
-shared-slice-read-work c = search needs
-
-slice-write-work : tie.Need-slice-write-work Inv-loop μ-loop
-slice-write-work c = search needs
-
-add-i : tie.Need-add-i Inv-loop μ-loop
-add-i c = search needs
-
-loop-less : tie.Need-loop-less Inv-loop μ-loop
-loop-less c = search needs
-
 loop-again : tie.Need-loop-again Inv-loop μ-loop
 loop-again c =
+    let at-start = c .before .before .before in
     let l = c .before .before .loop in
-    let s = c .before .before .before .args .from .now in
+    let s = at-start .args .from .now in
     (omega arith, made-more _ (omega arith) (packs-byte s (l .i) 8 (omega arith)) (l .inv .1))
 
 same-length : tie.Need-same-length Inv-loop μ-loop
@@ -44,14 +31,5 @@ returns c = λ p h. c .before .loop .inv .1 .done p (omega arith)
 pub copy-row-spec : {M : Type 1} → statement M
 copy-row-spec =
     tie.close
-    (tie.spec
-    Inv-loop
-    μ-loop
-    loop-holds
-    shared-slice-read-work
-    slice-write-work
-    add-i
-    loop-less
-    loop-again
-    same-length
-    returns)
+    (tie.spec Inv-loop μ-loop loop-holds (λ c. search needs) (λ c. search needs)
+    (λ c. search needs) (λ c. search needs) loop-again same-length returns)

@@ -5,8 +5,6 @@ use native.Mathlib.Omega.{arith}
 use Rattle.bits.proofs.Bytes.{Copied, copied-none, copied-more, copied-bits}
 use Rattle.judge.proofs.rows.copy_up.Statement.{statement}
 use Rattle.judge.proofs.rows.copy_up.Tie as tie
-use Rattle.judge.proofs.rows.copy_up.Reads as reads
-use Rattle.judge.proofs.rows.copy_up.Lts as lts
 
 abbrev Inv-loop : tie.InvT-loop
 Inv-loop work₀ n i₀ work i = (i ≤ n) × Copied work₀ n i work
@@ -16,21 +14,6 @@ abbrev μ-loop : tie.MeasureT-loop
 
 loop-holds : tie.Need-loop-holds Inv-loop μ-loop
 loop-holds c = (omega arith, copied-none _ _)
-
-slice-read-work : tie.Need-slice-read-work Inv-loop μ-loop
-slice-read-work c = search needs
-
-add-work : tie.Need-add-work Inv-loop μ-loop
-add-work c = search needs
-
-slice-write-work : tie.Need-slice-write-work Inv-loop μ-loop
-slice-write-work c = search needs
-
-add-i : tie.Need-add-i Inv-loop μ-loop
-add-i c = search needs
-
-loop-less : tie.Need-loop-less Inv-loop μ-loop
-loop-less c = search needs
 
 loop-again : tie.Need-loop-again Inv-loop μ-loop
 loop-again c = (omega arith, copied-more (omega arith) (omega arith) (c .before .before .loop .inv .1))
@@ -47,15 +30,5 @@ returns c =
 pub copy-up-spec : {M : Type 1} → statement M
 copy-up-spec =
     tie.close
-    (tie.spec
-    Inv-loop
-    μ-loop
-    loop-holds
-    slice-read-work
-    add-work
-    slice-write-work
-    add-i
-    loop-less
-    loop-again
-    same-length
-    returns)
+    (tie.spec Inv-loop μ-loop loop-holds (λ c. search needs) (λ c. search needs)
+    (λ c. search needs) (λ c. search needs) (λ c. search needs) loop-again same-length returns)

@@ -10,9 +10,6 @@ use lib.Bits.{and-le-l}
 use borrow.Author.Needs.{needs}
 use Rattle.judge.proofs.rows.digit_byte.Statement.{statement}
 use Rattle.judge.proofs.rows.digit_byte.Tie as tie
-use Rattle.judge.proofs.rows.digit_byte.Reads as reads
-use Rattle.judge.proofs.rows.digit_byte.Lts as lts
-use Rattle.judge.proofs.rows.placed.Reads as placed-reads
 
 abbrev Inv-loop : tie.InvT-loop
 Inv-loop trace column k p c m at₀ acc₀ j₀ at acc j = (j ≤ c) × (at ≡ p * 5 + column + 5 * j) × Packing (digitIn trace column k) p k j acc
@@ -20,99 +17,56 @@ Inv-loop trace column k p c m at₀ acc₀ j₀ at acc j = (j ≤ c) × (at ≡ 
 abbrev μ-loop : tie.MeasureT-loop
 μ-loop trace column k p c m at₀ acc₀ j₀ at acc j = c - j
 
-cast-m : tie.Need-cast-m Inv-loop μ-loop
-cast-m c = search needs
-
-shl-m : tie.Need-shl-m Inv-loop μ-loop
-shl-m c = search needs
-
-mul-at : tie.Need-mul-at Inv-loop μ-loop
-mul-at c = search needs
-
-add-at : tie.Need-add-at Inv-loop μ-loop
-add-at c = search needs
-
 loop-holds : tie.Need-loop-holds Inv-loop μ-loop
 loop-holds c = let a = c .before .args in (omega arith, omega arith, packing-none (digitIn a.trace.now a.column a.k) a.p a.k)
 
-shared-slice-read-x : tie.Need-shared-slice-read-x Inv-loop μ-loop
-shared-slice-read-x c = search needs
-
-mul-acc : tie.Need-mul-acc Inv-loop μ-loop
-mul-acc c = search needs
-
 cast-acc : tie.Need-cast-acc Inv-loop μ-loop
 cast-acc c =
+    let at-start = c .before .before .before .before in
     let l = c .before .before .loop in
-    let a = c .before .before .before .before .args in
+    let a = at-start .args in
     let x = getD a.trace.now (l .at) 0 in
     let m = 1 * 2 ^ a.k % 256 in
     record { fits = omega (arith, and-le-l x m, c .shared-slice-known2 .given (l .at)) }
 
 add-acc : tie.Need-add-acc Inv-loop μ-loop
 add-acc c =
+    let at-start = c .before .before .before .before in
     let l = c .before .before .loop in
-    let a = c .before .before .before .before .args in
+    let a = at-start .args in
     let x = getD a.trace.now (l .at) 0 in
     let m = 1 * 2 ^ a.k % 256 in
     record { fits = omega (arith, and-le-l x m, c .shared-slice-known2 .given (l .at), l .inv .2 .small) }
 
-add-at-2 : tie.Need-add-at-2 Inv-loop μ-loop
-add-at-2 c = search needs
-
-add-j : tie.Need-add-j Inv-loop μ-loop
-add-j c = search needs
-
-loop-less : tie.Need-loop-less Inv-loop μ-loop
-loop-less c = search needs
-
 loop-again : tie.Need-loop-again Inv-loop μ-loop
 loop-again c =
+    let at-start = c .before .before .before .before in
     let l = c .before .before .loop in
-    let a = c .before .before .before .before .args in (
+    let a = at-start .args in (
       omega arith,
       omega arith,
-      rw (mask-is a.k (omega arith)) (packing-masked (l .inv .2) _ (omega arith) (omega arith) (digit-here a.trace.now a.column a.k a.p (l .j) (l .at) (l .inv .1))),
+      rw (mask-is a.k (omega arith))
+          (packing-masked (l .inv .2) _ (omega arith) (omega arith) (digit-here a.trace.now a.column a.k a.p (l .j) (l .at) (l .inv .1))),
     )
-
-cast-placed : tie.Need-cast-placed Inv-loop μ-loop
-cast-placed c = search needs
-
-shr-placed : tie.Need-shr-placed Inv-loop μ-loop
-shr-placed c = search needs
 
 placed-requires : tie.Need-placed-requires Inv-loop μ-loop
 placed-requires c κs =
+    let at-start = c .before .before .before in
     let l = c .before .loop in
-    let e : l .j ≡ c .before .before .before .args .c = omega arith in
+    let e : l .j ≡ at-start .args .c = omega arith in
     (omega arith, packing-lt (rw e at (l .inv .2)))
 
 returns : tie.Need-returns Inv-loop μ-loop
 returns c =
+    let at-start = c .before .before .before .before in
     let l = c .before .before .loop in
-    let e : l .j ≡ c .before .before .before .before .args .c = omega arith in
+    let e : l .j ≡ at-start .args .c = omega arith in
     rw (c .placed .ensures) (packing-done (rw e at (l .inv .2)) (omega arith))
 
 pub digit-byte-spec : {M : Type 1} → statement M
 digit-byte-spec =
     tie.close
-    (tie.spec
-    Inv-loop
-    μ-loop
-    cast-m
-    shl-m
-    mul-at
-    add-at
-    loop-holds
-    shared-slice-read-x
-    mul-acc
-    cast-acc
-    add-acc
-    add-at-2
-    add-j
-    loop-less
-    loop-again
-    cast-placed
-    shr-placed
-    placed-requires
-    returns)
+    (tie.spec Inv-loop μ-loop (λ c. search needs) (λ c. search needs) (λ c. search needs)
+    (λ c. search needs) loop-holds (λ c. search needs) (λ c. search needs) cast-acc add-acc
+    (λ c. search needs) (λ c. search needs) (λ c. search needs) loop-again (λ c. search needs)
+    (λ c. search needs) placed-requires returns)

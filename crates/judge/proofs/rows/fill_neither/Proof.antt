@@ -11,11 +11,10 @@ use Rattle.judge.proofs.Packing.{packs-behind, packs-neither}
 use borrow.Author.Needs.{needs}
 use Rattle.judge.proofs.rows.fill_neither.Statement.{statement}
 use Rattle.judge.proofs.rows.fill_neither.Tie as tie
-use Rattle.judge.proofs.rows.fill_neither.Reads as reads
-use Rattle.judge.proofs.rows.fill_neither.Lts as lts
 
 abbrev Inv-loop : tie.InvT-loop
-Inv-loop marks₀ i₀ marks i = (i ≤ longestRow) × Made (λ p. not (bitAt (drop longestRow marks₀) p || bitAt (drop (2 * longestRow) marks₀) p)) marks₀ i marks
+Inv-loop marks₀ i₀ marks i =
+    (i ≤ longestRow) × Made (λ p. not (bitAt (drop longestRow marks₀) p || bitAt (drop (2 * longestRow) marks₀) p)) marks₀ i marks
 
 abbrev μ-loop : tie.MeasureT-loop
 μ-loop marks₀ i₀ marks i = longestRow - i
@@ -23,44 +22,25 @@ abbrev μ-loop : tie.MeasureT-loop
 loop-holds : tie.Need-loop-holds Inv-loop μ-loop
 loop-holds c = (omega arith, made-none _ _)
 
-add-marks : tie.Need-add-marks Inv-loop μ-loop
-add-marks c = search needs
-
-slice-read-marks : tie.Need-slice-read-marks Inv-loop μ-loop
-slice-read-marks c = search needs
-
-mul-marks : tie.Need-mul-marks Inv-loop μ-loop
-mul-marks c = search needs
-
-add-marks-2 : tie.Need-add-marks-2 Inv-loop μ-loop
-add-marks-2 c = search needs
-
-slice-read-marks-2 : tie.Need-slice-read-marks-2 Inv-loop μ-loop
-slice-read-marks-2 c = search needs
-
 sub-marks : tie.Need-sub-marks Inv-loop μ-loop
 sub-marks c =
-    let l = c .before .before .before .loop in
+    let at-loop = c .before .before .before in
+    let l = at-loop .loop in
     let x = c .before .slice-known .given (longestRow + l .i) in
     let y = c .slice-known2 .given (2 * longestRow + l .i) in
     omega (arith, or-lt 8 (getD (l .marks) (longestRow + l .i) 0) (getD (l .marks) (2 * longestRow + l .i) 0) (omega arith) (omega arith))
 
-slice-write-marks : tie.Need-slice-write-marks Inv-loop μ-loop
-slice-write-marks c = search needs
-
-add-i : tie.Need-add-i Inv-loop μ-loop
-add-i c = search needs
-
-loop-less : tie.Need-loop-less Inv-loop μ-loop
-loop-less c = search needs
-
 loop-again : tie.Need-loop-again Inv-loop μ-loop
 loop-again c =
-    let l = c .before .before .before .loop in
+    let at-loop = c .before .before .before in
+    let l = at-loop .loop in
     let x = c .before .slice-known .given (longestRow + l .i) in
     let y = c .slice-known2 .given (2 * longestRow + l .i) in
-    let h = l .inv .1 in
-    (omega arith, made-more _ (omega arith) (packs-neither _ _ _ _ _ (omega arith) (omega arith) (packs-behind longestRow h) (packs-behind (2 * longestRow) h)) h)
+    let h = l .inv .1 in (
+      omega arith,
+      made-more _ (omega arith)
+          (packs-neither _ _ _ _ _ (omega arith) (omega arith) (packs-behind longestRow h) (packs-behind (2 * longestRow) h)) h,
+    )
 
 same-length : tie.Need-same-length Inv-loop μ-loop
 same-length c = c .before .loop .inv .1 .size
@@ -74,19 +54,6 @@ returns c =
 pub fill-neither-spec : {M : Type 1} → statement M
 fill-neither-spec =
     tie.close
-    (tie.spec
-    Inv-loop
-    μ-loop
-    loop-holds
-    add-marks
-    slice-read-marks
-    mul-marks
-    add-marks-2
-    slice-read-marks-2
-    sub-marks
-    slice-write-marks
-    add-i
-    loop-less
-    loop-again
-    same-length
-    returns)
+    (tie.spec Inv-loop μ-loop loop-holds (λ c. search needs) (λ c. search needs)
+    (λ c. search needs) (λ c. search needs) (λ c. search needs) sub-marks (λ c. search needs)
+    (λ c. search needs) (λ c. search needs) loop-again same-length returns)

@@ -6,8 +6,6 @@ use native.Mathlib.Omega.{arith}
 use Rattle.bits.proofs.Bytes.{packs-full, Made, made-none, made-more, made-rest}
 use Rattle.judge.proofs.rows.fill_row.Statement.{statement}
 use Rattle.judge.proofs.rows.fill_row.Tie as tie
-use Rattle.judge.proofs.rows.fill_row.Reads as reads
-use Rattle.judge.proofs.rows.fill_row.Lts as lts
 
 abbrev Inv-loop : tie.InvT-loop
 Inv-loop work₀ n i₀ work i = (i ≤ n) × Made (λ p. true) work₀ i work
@@ -17,15 +15,6 @@ abbrev μ-loop : tie.MeasureT-loop
 
 loop-holds : tie.Need-loop-holds Inv-loop μ-loop
 loop-holds c = (omega arith, made-none _ _)
-
-slice-write-work : tie.Need-slice-write-work Inv-loop μ-loop
-slice-write-work c = search needs
-
-add-i : tie.Need-add-i Inv-loop μ-loop
-add-i c = search needs
-
-loop-less : tie.Need-loop-less Inv-loop μ-loop
-loop-less c = search needs
 
 loop-again : tie.Need-loop-again Inv-loop μ-loop
 loop-again c = let l = c .before .loop in (omega arith, made-more _ (omega arith) (packs-full (8 * l .i)) (l .inv .1))
@@ -42,13 +31,5 @@ returns c =
 pub fill-row-spec : {M : Type 1} → statement M
 fill-row-spec =
     tie.close
-    (tie.spec
-    Inv-loop
-    μ-loop
-    loop-holds
-    slice-write-work
-    add-i
-    loop-less
-    loop-again
-    same-length
-    returns)
+    (tie.spec Inv-loop μ-loop loop-holds (λ c. search needs) (λ c. search needs)
+    (λ c. search needs) loop-again same-length returns)

@@ -4,8 +4,6 @@ use native.Mathlib.Omega.{arith}
 use lib.Bits.{or-lt}
 use Rattle.judge.proofs.rows.sum_of.Statement.{statement}
 use Rattle.judge.proofs.rows.sum_of.Tie as tie
-use Rattle.judge.proofs.rows.sum_of.Reads as reads
-use Rattle.judge.proofs.rows.sum_of.Lts as lts
 
 cast-a : tie.Need-cast-a
 cast-a c = let a = c .args in let o = or-lt 8 a.x a.y (omega arith) (omega arith) in search needs

@@ -4,8 +4,6 @@ use lib.Bits.{or-lt}
 use borrow.Author.Needs.{needs}
 use Rattle.judge.proofs.rows.sum_word.Statement.{statement}
 use Rattle.judge.proofs.rows.sum_word.Tie as tie
-use Rattle.judge.proofs.rows.sum_word.Reads as reads
-use Rattle.judge.proofs.rows.sum_word.Lts as lts
 
 add-result : tie.Need-add-result
 add-result c = let a = c .args in let o = or-lt 32 a.x a.y (omega arith) (omega arith) in search needs

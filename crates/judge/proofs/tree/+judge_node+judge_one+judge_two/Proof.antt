@@ -61,7 +61,18 @@ judge-two-below t =
     and 4 judge-two-kinds.ps (falls 4 judge-two-kinds.ps _<_ μ-judge-two t) judge-two.Pre
 
 abbrev judge-node-calls : ℕ → judge-node-lts.Claims
-judge-node-calls t = (read-node-reads.Asked, read-node-reads.Learnt, fill-atom-reads.Asked, fill-atom-reads.Learnt, fill-phase-reads.Asked, fill-phase-reads.Learnt, judge-one-below t, judge-one.Post, judge-two-below t, judge-two.Post)
+judge-node-calls t = (
+  read-node-reads.Asked,
+  read-node-reads.Learnt,
+  fill-atom-reads.Asked,
+  fill-atom-reads.Learnt,
+  fill-phase-reads.Asked,
+  fill-phase-reads.Learnt,
+  judge-one-below t,
+  judge-one.Post,
+  judge-two-below t,
+  judge-two.Post,
+)
 
 abbrev judge-one-calls : ℕ → judge-one-lts.Claims
 judge-one-calls t = (judge-node-below t, judge-node.Post, apply-one-reads.Asked, apply-one-reads.Learnt)
@@ -71,209 +82,192 @@ judge-two-calls t = (judge-node-below t, judge-node.Post, apply-two-reads.Asked,
 
 judge-node-returns : (t : ℕ) → judge-node-lts.Need-returns (judge-node-calls t) (judge-node-at t) judge-node.Post
 judge-node-returns t c =
-    let a = c .before .before .before .before .before .args in
+    let at-start = c .before .before .before .before .before in
+    let a = at-start .args in
     rowed-none a.kind a.code.now a.at a.depth a.trace.now a.start _ _ (c .if1 .taken)
-
-judge-node-sub-below : (t : ℕ) → judge-node-lts.Need-sub-below (judge-node-calls t) (judge-node-at t) judge-node.Post
-judge-node-sub-below t c = search needs
-
-judge-node-read-node-requires : (t : ℕ) → judge-node-lts.Need-read-node-requires (judge-node-calls t) (judge-node-at t) judge-node.Post
-judge-node-read-node-requires t c κs = search needs
-
-judge-node-enum-told : (t : ℕ) → judge-node-lts.Need-enum-told (judge-node-calls t) (judge-node-at t) judge-node.Post
-judge-node-enum-told t c = search needs
-
-judge-node-enum-known-node : (t : ℕ) → judge-node-lts.Need-enum-known-node (judge-node-calls t) (judge-node-at t) judge-node.Post
-judge-node-enum-known-node t c = search needs
-
-judge-node-enum-known-node-2 : (t : ℕ) → judge-node-lts.Need-enum-known-node-2 (judge-node-calls t) (judge-node-at t) judge-node.Post
-judge-node-enum-known-node-2 t c = search needs
-
-judge-node-cast-fill-atom : (t : ℕ) → judge-node-lts.Need-cast-fill-atom (judge-node-calls t) (judge-node-at t) judge-node.Post
-judge-node-cast-fill-atom t c = search needs
 
 judge-node-fill-atom-requires : (t : ℕ) → judge-node-lts.Need-fill-atom-requires (judge-node-calls t) (judge-node-at t) judge-node.Post
 judge-node-fill-atom-requires t c κs =
-    let s = c .before .before .before .before .before .before .before .before .before .before .before .before .before in
+    let at-node = c .before .before .before .before .before in
+    let at-if1 = at-node .before .before .before in
+    let s = at-if1 .before .before .before .before .before in
     let a = s .args in (
-      omega (arith, atom-to-31 a.kind a.code.now a.at _ _ (node-found a.kind a.code.now a.at _ (c .before .before .before .before .before .before .before .read-node .ensures) (c .before .before .before .before .before .node .given .1) (c .before .before .node2 .given .1))),
+      omega (
+        arith,
+        atom-to-31 a.kind a.code.now a.at _ _
+            (node-found a.kind a.code.now a.at _ (at-node .before .before .read-node .ensures) (at-node .node .given .1)
+            (c .before .before .node2 .given .1)),
+      ),
       s .pre .1 .0 .few,
-      room-row (room-in (s .pre .1 .0) (c .before .before .before .before .before .before .before .before .if1 .left)),
+      room-row (room-in (s .pre .1 .0) (at-if1 .if1 .left)),
     )
-
-judge-node-enum-known-node-3 : (t : ℕ) → judge-node-lts.Need-enum-known-node-3 (judge-node-calls t) (judge-node-at t) judge-node.Post
-judge-node-enum-known-node-3 t c = search needs
 
 judge-node-fill-phase-requires : (t : ℕ) → judge-node-lts.Need-fill-phase-requires (judge-node-calls t) (judge-node-at t) judge-node.Post
 judge-node-fill-phase-requires t c κs =
-    let s = c .before .before .before .before .before .before .before .before .before .before .before .before .before in
-    (s .pre .1 .1, room-row (room-in (s .pre .1 .0) (c .before .before .before .before .before .before .before .before .if1 .left)), s .pre .1 .0 .few)
-
-judge-node-enum-known-node-4 : (t : ℕ) → judge-node-lts.Need-enum-known-node-4 (judge-node-calls t) (judge-node-at t) judge-node.Post
-judge-node-enum-known-node-4 t c = search needs
+    let at-if1 = c .before .before .before .before .before .before .before .before in
+    let s = at-if1 .before .before .before .before .before in
+    (s .pre .1 .1, room-row (room-in (s .pre .1 .0) (at-if1 .if1 .left)), s .pre .1 .0 .few)
 
 judge-node-judge-one-requires : (t : ℕ) → judge-node-lts.Need-judge-one-requires (judge-node-calls t) (judge-node-at t) judge-node.Post
-judge-node-judge-one-requires t c κs = (omega (arith, c .before .before .before .before .before .before .before .before .before .before .before .before .before .pre .0), (room-in (c .before .before .before .before .before .before .before .before .before .before .before .before .before .pre .1 .0) (c .before .before .before .before .before .before .before .before .if1 .left), c .before .before .before .before .before .before .before .before .before .before .before .before .before .pre .1 .1))
-
-judge-node-enum-known-node-5 : (t : ℕ) → judge-node-lts.Need-enum-known-node-5 (judge-node-calls t) (judge-node-at t) judge-node.Post
-judge-node-enum-known-node-5 t c = search needs
+judge-node-judge-one-requires t c κs =
+    let at-if1 = c .before .before .before .before .before .before .before .before in
+    let at-start = at-if1 .before .before .before .before .before in
+    (omega (arith, at-start .pre .0), (room-in (at-start .pre .1 .0) (at-if1 .if1 .left), at-start .pre .1 .1))
 
 judge-node-judge-two-requires : (t : ℕ) → judge-node-lts.Need-judge-two-requires (judge-node-calls t) (judge-node-at t) judge-node.Post
-judge-node-judge-two-requires t c κs = (omega (arith, c .before .before .before .before .before .before .before .before .before .before .before .before .before .pre .0), (room-in (c .before .before .before .before .before .before .before .before .before .before .before .before .before .pre .1 .0) (c .before .before .before .before .before .before .before .before .if1 .left), c .before .before .before .before .before .before .before .before .before .before .before .before .before .pre .1 .1))
+judge-node-judge-two-requires t c κs =
+    let at-if1 = c .before .before .before .before .before .before .before .before in
+    let at-start = at-if1 .before .before .before .before .before in
+    (omega (arith, at-start .pre .0), (room-in (at-start .pre .1 .0) (at-if1 .if1 .left), at-start .pre .1 .1))
 
 judge-node-returns-2 : (t : ℕ) → judge-node-lts.Need-returns-2 (judge-node-calls t) (judge-node-at t) judge-node.Post
 judge-node-returns-2 t c =
-    let a = c .before .before .before .before .before .before .before .before .args in
-    rowed-fault a.kind a.code.now a.at a.depth a.trace.now a.start _ _ (c .before .before .before .if1 .left) (sym (c .before .before .read-node .ensures) ∙ c .enum-told .given .1)
-
-judge-node-same-length : (t : ℕ) → judge-node-lts.Need-same-length (judge-node-calls t) (judge-node-at t) judge-node.Post
-judge-node-same-length t c = search needs
+    let at-if1 = c .before .before .before in
+    let at-start = at-if1 .before .before .before .before .before in
+    let a = at-start .args in
+    rowed-fault a.kind a.code.now a.at a.depth a.trace.now a.start _ _ (at-if1 .if1 .left)
+    (sym (c .before .before .read-node .ensures) ∙ c .enum-told .given .1)
 
 judge-node-returns-3 : (t : ℕ) → judge-node-lts.Need-returns-3 (judge-node-calls t) (judge-node-at t) judge-node.Post
 judge-node-returns-3 t c =
-    let a = c .before .before .before .before .before .before .before .before .before .before .before .before .before .before .before .before .args in
-    rowed-atom a.kind a.code.now a.at a.depth a.trace.now a.start _ _ (c .before .before .before .before .before .before .before .before .before .before .before .if1 .left) _ (node-found a.kind a.code.now a.at _ (c .before .before .before .before .before .before .before .before .before .before .read-node .ensures) (c .before .before .before .before .before .before .before .before .node .given .1) (c .before .before .before .before .before .node2 .given .1)) (c .before .before .fill-atom .ensures)
-
-judge-node-same-length-2 : (t : ℕ) → judge-node-lts.Need-same-length-2 (judge-node-calls t) (judge-node-at t) judge-node.Post
-judge-node-same-length-2 t c = search needs
+    let at-node2 = c .before .before .before .before .before in
+    let at-node = at-node2 .before .before .before in
+    let at-read-node = at-node .before .before in
+    let at-if1 = at-read-node .before in
+    let at-start = at-if1 .before .before .before .before .before in
+    let a = at-start .args in
+    rowed-atom a.kind a.code.now a.at a.depth a.trace.now a.start _ _ (at-if1 .if1 .left) _
+    (node-found a.kind a.code.now a.at _ (at-read-node .read-node .ensures) (at-node .node .given .1) (at-node2 .node2 .given .1))
+    (c .before .before .fill-atom .ensures)
 
 judge-node-returns-4 : (t : ℕ) → judge-node-lts.Need-returns-4 (judge-node-calls t) (judge-node-at t) judge-node.Post
 judge-node-returns-4 t c =
-    let a = c .before .before .before .before .before .before .before .before .before .before .before .before .before .before .before .before .args in
-    rowed-mark a.kind a.code.now a.at a.depth a.trace.now a.start _ _ (c .before .before .before .before .before .before .before .before .before .before .before .if1 .left) _ (node-found a.kind a.code.now a.at _ (c .before .before .before .before .before .before .before .before .before .before .read-node .ensures) (c .before .before .before .before .before .before .before .before .node .given .1) (c .before .before .before .before .before .node3 .given .1)) (c .before .before .fill-phase .ensures)
-
-judge-node-same-length-3 : (t : ℕ) → judge-node-lts.Need-same-length-3 (judge-node-calls t) (judge-node-at t) judge-node.Post
-judge-node-same-length-3 t c = search needs
+    let at-node3 = c .before .before .before .before .before in
+    let at-node = at-node3 .before .before .before in
+    let at-read-node = at-node .before .before in
+    let at-if1 = at-read-node .before in
+    let at-start = at-if1 .before .before .before .before .before in
+    let a = at-start .args in
+    rowed-mark a.kind a.code.now a.at a.depth a.trace.now a.start _ _ (at-if1 .if1 .left) _
+    (node-found a.kind a.code.now a.at _ (at-read-node .read-node .ensures) (at-node .node .given .1) (at-node3 .node3 .given .1))
+    (c .before .before .fill-phase .ensures)
 
 judge-node-returns-5 : (t : ℕ) → judge-node-lts.Need-returns-5 (judge-node-calls t) (judge-node-at t) judge-node.Post
 judge-node-returns-5 t c =
-    let a = c .before .before .before .before .before .before .before .before .before .before .before .before .before .before .before .before .args in
-    rowed-one a.kind a.code.now a.at a.depth a.trace.now a.start _ _ (c .before .before .before .before .before .before .before .before .before .before .before .if1 .left) _ (node-found a.kind a.code.now a.at _ (c .before .before .before .before .before .before .before .before .before .before .read-node .ensures) (c .before .before .before .before .before .before .before .before .node .given .1) (c .before .before .before .before .before .node4 .given .1)) (c .before .before .judge-one .ensures)
-
-judge-node-same-length-4 : (t : ℕ) → judge-node-lts.Need-same-length-4 (judge-node-calls t) (judge-node-at t) judge-node.Post
-judge-node-same-length-4 t c = search needs
+    let at-node4 = c .before .before .before .before .before in
+    let at-node = at-node4 .before .before .before in
+    let at-read-node = at-node .before .before in
+    let at-if1 = at-read-node .before in
+    let at-start = at-if1 .before .before .before .before .before in
+    let a = at-start .args in
+    rowed-one a.kind a.code.now a.at a.depth a.trace.now a.start _ _ (at-if1 .if1 .left) _
+    (node-found a.kind a.code.now a.at _ (at-read-node .read-node .ensures) (at-node .node .given .1) (at-node4 .node4 .given .1))
+    (c .before .before .judge-one .ensures)
 
 judge-node-returns-6 : (t : ℕ) → judge-node-lts.Need-returns-6 (judge-node-calls t) (judge-node-at t) judge-node.Post
 judge-node-returns-6 t c =
-    let a = c .before .before .before .before .before .before .before .before .before .before .before .before .before .before .before .before .args in
-    rowed-two a.kind a.code.now a.at a.depth a.trace.now a.start _ _ (c .before .before .before .before .before .before .before .before .before .before .before .if1 .left) _ (node-found a.kind a.code.now a.at _ (c .before .before .before .before .before .before .before .before .before .before .read-node .ensures) (c .before .before .before .before .before .before .before .before .node .given .1) (c .before .before .before .before .before .node5 .given .1)) (c .before .before .judge-two .ensures)
+    let at-node5 = c .before .before .before .before .before in
+    let at-node = at-node5 .before .before .before in
+    let at-read-node = at-node .before .before in
+    let at-if1 = at-read-node .before in
+    let at-start = at-if1 .before .before .before .before .before in
+    let a = at-start .args in
+    rowed-two a.kind a.code.now a.at a.depth a.trace.now a.start _ _ (at-if1 .if1 .left) _
+    (node-found a.kind a.code.now a.at _ (at-read-node .read-node .ensures) (at-node .node .given .1) (at-node5 .node5 .given .1))
+    (c .before .before .judge-two .ensures)
 
 judge-one-returns : (t : ℕ) → judge-one-lts.Need-returns (judge-one-calls t) (judge-one-at t) judge-one.Post
 judge-one-returns t c =
-    let a = c .before .before .before .before .before .args in
+    let at-start = c .before .before .before .before .before in
+    let a = at-start .args in
     rw (walk-none a.kind a.code.now a.at _ (c .if1 .taken)) tt
 
 judge-one-judge-node-requires : (t : ℕ) → judge-one-lts.Need-judge-node-requires (judge-one-calls t) (judge-one-at t) judge-one.Post
-judge-one-judge-node-requires t c κs = (omega (arith, c .before .before .before .before .before .before .pre .0), (room-less (c .before .before .before .before .before .before .pre .1 .0) _ (omega arith), c .before .before .before .before .before .before .pre .1 .1))
+judge-one-judge-node-requires t c κs =
+    let at-start = c .before .before .before .before .before .before in
+    (omega (arith, at-start .pre .0), (room-less (at-start .pre .1 .0) _ (omega arith), at-start .pre .1 .1))
 
 judge-one-apply-one-requires : (t : ℕ) → judge-one-lts.Need-apply-one-requires (judge-one-calls t) (judge-one-at t) judge-one.Post
-judge-one-apply-one-requires t c κs = (room-pair (c .before .before .before .before .before .before .before .before .before .before .pre .1 .0) (c .before .before .before .before .before .if1 .left) _ (c .before .before .before .judge-node .kept .1 .1 .1 .1 .1 .1 .1 .0), c .before .before .before .before .before .before .before .before .before .before .pre .1 .1)
-
-judge-one-same-length : (t : ℕ) → judge-one-lts.Need-same-length (judge-one-calls t) (judge-one-at t) judge-one.Post
-judge-one-same-length t c = search needs
+judge-one-apply-one-requires t c κs =
+    let at-judge-node = c .before .before .before in
+    let at-if1 = at-judge-node .before .before in
+    let at-start = at-if1 .before .before .before .before .before in
+    (room-pair (at-start .pre .1 .0) (at-if1 .if1 .left) _ (at-judge-node .judge-node .kept .1 .1 .1 .1 .1 .1 .1 .0), at-start .pre .1 .1)
 
 judge-one-returns-2 : (t : ℕ) → judge-one-lts.Need-returns-2 (judge-one-calls t) (judge-one-at t) judge-one.Post
 judge-one-returns-2 t c =
-    let a = c .before .before .before .before .before .before .before .before .before .before .before .before .before .args in
-    rowed-over-one a.trace.now a.start (c .before .before .before .before .before .before .before .before .before .before .before .before .before .pre .1 .0 .inside) _ _ a.operator (walkAt a.kind a.depth a.code.now a.at) _ (c .before .before .before .before .before .before .judge-node .ensures) (c .before .before .apply-one .ensures)
+    let at-judge-node = c .before .before .before .before .before .before in
+    let at-start = at-judge-node .before .before .before .before .before .before .before in
+    let a = at-start .args in
+    rowed-over-one a.trace.now a.start (at-start .pre .1 .0 .inside) _ _ a.operator (walkAt a.kind a.depth a.code.now a.at) _
+    (at-judge-node .judge-node .ensures) (c .before .before .apply-one .ensures)
 
 judge-two-returns : (t : ℕ) → judge-two-lts.Need-returns (judge-two-calls t) (judge-two-at t) judge-two.Post
 judge-two-returns t c =
-    let a = c .before .before .before .before .before .args in
+    let at-start = c .before .before .before .before .before in
+    let a = at-start .args in
     rw (walk-none a.kind a.code.now a.at _ (c .if1 .taken)) tt
 
-judge-two-add-row : (t : ℕ) → judge-two-lts.Need-add-row (judge-two-calls t) (judge-two-at t) judge-two.Post
-judge-two-add-row t c = search needs
-
 judge-two-judge-node-requires : (t : ℕ) → judge-two-lts.Need-judge-node-requires (judge-two-calls t) (judge-two-at t) judge-two.Post
-judge-two-judge-node-requires t c κs = (omega (arith, c .before .before .before .before .before .before .pre .0), (room-less (c .before .before .before .before .before .before .pre .1 .0) _ (omega arith), c .before .before .before .before .before .before .pre .1 .1))
-
-judge-two-sub-judge-node : (t : ℕ) → judge-two-lts.Need-sub-judge-node (judge-two-calls t) (judge-two-at t) judge-two.Post
-judge-two-sub-judge-node t c = search needs
-
-judge-two-part-judge-node-start : (t : ℕ) → judge-two-lts.Need-part-judge-node-start (judge-two-calls t) (judge-two-at t) judge-two.Post
-judge-two-part-judge-node-start t c = search needs
-
-judge-two-part-judge-node-end : (t : ℕ) → judge-two-lts.Need-part-judge-node-end (judge-two-calls t) (judge-two-at t) judge-two.Post
-judge-two-part-judge-node-end t c = search needs
+judge-two-judge-node-requires t c κs =
+    let at-start = c .before .before .before .before .before .before in
+    (omega (arith, at-start .pre .0), (room-less (at-start .pre .1 .0) _ (omega arith), at-start .pre .1 .1))
 
 judge-two-judge-node-requires-2 : (t : ℕ) → judge-two-lts.Need-judge-node-requires-2 (judge-two-calls t) (judge-two-at t) judge-two.Post
 judge-two-judge-node-requires-2 t c κs =
-    let s = c .before .before .before .before .before .before .before .before .before .before in
-    let w = c .before .before .before .judge-node .last .1 .1 .1 .1 .1 .1 .1 .0 in
-    let lw = c .before .before .before .judge-node .kept .1 .1 .1 .1 .1 .1 .1 .0 in
+    let at-judge-node = c .before .before .before in
+    let s = at-judge-node .before .before .before .before .before .before .before in
+    let w = at-judge-node .judge-node .last .1 .1 .1 .1 .1 .1 .1 .0 in
+    let lw = at-judge-node .judge-node .kept .1 .1 .1 .1 .1 .1 .1 .0 in
     let r = rowOf (positions s.args.trace.now) in
     (omega (arith, s .pre .0), (room-less (s .pre .1 .0) _ (room-behind r w lw (room-row (s .pre .1 .0))), s .pre .1 .1))
 
 judge-two-apply-two-requires : (t : ℕ) → judge-two-lts.Need-apply-two-requires (judge-two-calls t) (judge-two-at t) judge-two.Post
 judge-two-apply-two-requires t c κs =
-    let s = c .before .before .before .before .before .before .before .before .before .before .before .before .before .before in
-    let w = c .before .before .before .before .before .before .before .judge-node .last .1 .1 .1 .1 .1 .1 .1 .0 in
-    let v = c .before .before .before .judge-node2 .last .1 .1 .1 .1 .1 .1 .1 .0 in
-    let r = rowOf (positions s.args.trace.now) in
-    (room-pair (s .pre .1 .0) (c .before .before .before .before .before .before .before .before .before .if1 .left) _ (same-len-mid r (length w - r) w v (c .before .before .before .judge-node2 .kept .1 .1 .1 .1 .1 .1 .1 .0) ∙ c .before .before .before .before .before .before .before .judge-node .kept .1 .1 .1 .1 .1 .1 .1 .0), s .pre .1 .1)
-
-judge-two-same-length : (t : ℕ) → judge-two-lts.Need-same-length (judge-two-calls t) (judge-two-at t) judge-two.Post
-judge-two-same-length t c = search needs
+    let at-judge-node2 = c .before .before .before in
+    let at-judge-node = at-judge-node2 .before .before .before .before in
+    let at-if1 = at-judge-node .before .before in
+    let s = at-if1 .before .before .before .before .before in
+    let w = at-judge-node .judge-node .last .1 .1 .1 .1 .1 .1 .1 .0 in
+    let v = at-judge-node2 .judge-node2 .last .1 .1 .1 .1 .1 .1 .1 .0 in
+    let r = rowOf (positions s.args.trace.now) in (
+      room-pair (s .pre .1 .0) (at-if1 .if1 .left) _
+          (same-len-mid r (length w - r) w v (at-judge-node2 .judge-node2 .kept .1 .1 .1 .1 .1 .1 .1 .0)
+          ∙ at-judge-node .judge-node .kept .1 .1 .1 .1 .1 .1 .1 .0),
+      s .pre .1 .1,
+    )
 
 judge-two-returns-2 : (t : ℕ) → judge-two-lts.Need-returns-2 (judge-two-calls t) (judge-two-at t) judge-two.Post
 judge-two-returns-2 t c =
-    let s = c .before .before .before .before .before .before .before .before .before .before .before .before .before .before .before .before .before in
+    let at-judge-node2 = c .before .before .before .before .before .before in
+    let at-judge-node = at-judge-node2 .before .before .before .before in
+    let s = at-judge-node .before .before .before .before .before .before .before in
     let a = s .args in
-    let w = c .before .before .before .before .before .before .before .before .before .before .judge-node .last .1 .1 .1 .1 .1 .1 .1 .0 in
-    let v = c .before .before .before .before .before .before .judge-node2 .last .1 .1 .1 .1 .1 .1 .1 .0 in
-    let lw = c .before .before .before .before .before .before .before .before .before .before .judge-node .kept .1 .1 .1 .1 .1 .1 .1 .0 in
-    let lv = simp (length-take, length-drop) at (c .before .before .before .before .before .before .judge-node2 .kept .1 .1 .1 .1 .1 .1 .1 .0) in
-    let two = room-two (s .pre .1 .0) (c .before .before .before .before .before .before .before .before .before .before .before .before .if1 .left) in
-    rowed-over-two a.trace.now a.start (s .pre .1 .0 .inside) _ _ a.operator (λ x. walkAt a.kind a.depth a.code.now x) (walkAt a.kind a.depth a.code.now a.at)
-    _ (length w - rowOf (positions a.trace.now)) w v (omega arith) (omega arith) (c .before .before .before .before .before .before .before .before .before .before .judge-node .ensures) (c .before .before .before .before .before .before .judge-node2 .ensures) (c .before .before .apply-two .ensures)
+    let w = at-judge-node .judge-node .last .1 .1 .1 .1 .1 .1 .1 .0 in
+    let v = at-judge-node2 .judge-node2 .last .1 .1 .1 .1 .1 .1 .1 .0 in
+    let lw = at-judge-node .judge-node .kept .1 .1 .1 .1 .1 .1 .1 .0 in
+    let lv = simp (length-take, length-drop) at (at-judge-node2 .judge-node2 .kept .1 .1 .1 .1 .1 .1 .1 .0) in
+    let two = room-two (s .pre .1 .0) (at-judge-node .before .before .if1 .left) in
+    rowed-over-two a.trace.now a.start (s .pre .1 .0 .inside) _ _ a.operator (λ x. walkAt a.kind a.depth a.code.now x)
+    (walkAt a.kind a.depth a.code.now a.at)
+    _ (length w - rowOf (positions a.trace.now)) w v (omega arith) (omega arith) (at-judge-node .judge-node .ensures)
+    (at-judge-node2 .judge-node2 .ensures) (c .before .before .apply-two .ensures)
 
 pub +judge-node+judge-one+judge-two-spec : {M : Type 1} → statement M
 +judge-node+judge-one+judge-two-spec =
-    close μ-judge-node μ-judge-one μ-judge-two (λ t. judge-node-lts.spec (judge-node-calls t)
-    (judge-node-at t)
-    judge-node.Post
-    (judge-node-returns t)
-    (judge-node-sub-below t)
-    (judge-node-read-node-requires t)
-    (judge-node-enum-told t)
-    (judge-node-enum-known-node t)
-    (judge-node-enum-known-node-2 t)
-    (judge-node-cast-fill-atom t)
-    (judge-node-fill-atom-requires t)
-    (judge-node-enum-known-node-3 t)
-    (judge-node-fill-phase-requires t)
-    (judge-node-enum-known-node-4 t)
-    (judge-node-judge-one-requires t)
-    (judge-node-enum-known-node-5 t)
-    (judge-node-judge-two-requires t)
-    (judge-node-returns-2 t)
-    (judge-node-same-length t)
-    (judge-node-returns-3 t)
-    (judge-node-same-length-2 t)
-    (judge-node-returns-4 t)
-    (judge-node-same-length-3 t)
-    (judge-node-returns-5 t)
-    (judge-node-same-length-4 t)
+    close μ-judge-node μ-judge-one μ-judge-two
+    (λ t. judge-node-lts.spec (judge-node-calls t) (judge-node-at t) judge-node.Post
+    (judge-node-returns t) (λ c. search needs) (λ c κs. search needs) (λ c. search needs)
+    (λ c. search needs) (λ c. search needs) (λ c. search needs) (judge-node-fill-atom-requires t)
+    (λ c. search needs) (judge-node-fill-phase-requires t) (λ c. search needs)
+    (judge-node-judge-one-requires t) (λ c. search needs) (judge-node-judge-two-requires t)
+    (judge-node-returns-2 t) (λ c. search needs) (judge-node-returns-3 t) (λ c. search needs)
+    (judge-node-returns-4 t) (λ c. search needs) (judge-node-returns-5 t) (λ c. search needs)
     (judge-node-returns-6 t))
-    (λ t. judge-one-lts.spec (judge-one-calls t)
-    (judge-one-at t)
-    judge-one.Post
-    (judge-one-returns t)
-    (judge-one-judge-node-requires t)
-    (judge-one-apply-one-requires t)
-    (judge-one-same-length t)
-    (judge-one-returns-2 t))
-    λ t. judge-two-lts.spec (judge-two-calls t)
-    (judge-two-at t)
-    judge-two.Post
-    (judge-two-returns t)
-    (judge-two-add-row t)
-    (judge-two-judge-node-requires t)
-    (judge-two-sub-judge-node t)
-    (judge-two-part-judge-node-start t)
-    (judge-two-part-judge-node-end t)
-    (judge-two-judge-node-requires-2 t)
-    (judge-two-apply-two-requires t)
-    (judge-two-same-length t)
+    (λ t. judge-one-lts.spec (judge-one-calls t) (judge-one-at t) judge-one.Post
+    (judge-one-returns t) (judge-one-judge-node-requires t) (judge-one-apply-one-requires t)
+    (λ c. search needs) (judge-one-returns-2 t)) λ t. judge-two-lts.spec (judge-two-calls t)
+    (judge-two-at t) judge-two.Post (judge-two-returns t) (λ c. search needs)
+    (judge-two-judge-node-requires t) (λ c. search needs) (λ c. search needs) (λ c. search needs)
+    (judge-two-judge-node-requires-2 t) (judge-two-apply-two-requires t) (λ c. search needs)
     (judge-two-returns-2 t)

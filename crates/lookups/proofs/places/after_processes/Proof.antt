@@ -6,22 +6,16 @@ use Rattle.lookups.specs.Places.{afterProcesses}
 use Rattle.lookups.proofs.Passed.{pass-process, no-processes}
 use Rattle.lookups.proofs.places.after_processes.Statement.{statement}
 use Rattle.lookups.proofs.places.after_processes.Tie as tie
-use Rattle.lookups.proofs.places.after_processes.Reads as reads
-use Rattle.lookups.proofs.places.after_processes.Lts as lts
-use Rattle.lookups.proofs.places.after_states.Reads as after-states-reads
-use Rattle.lookups.proofs.places.number.Reads as number-reads
 
 abbrev Inv-loop : tie.InvT-loop
-Inv-loop table from k at₀ left₀ at left = (afterProcesses table left at ≡ afterProcesses table k from) × (at + 2 ^ 35 * left ≤ from + 2 ^ 35 * k)
+Inv-loop table from k at₀ left₀ at left =
+    (afterProcesses table left at ≡ afterProcesses table k from) × (at + 2 ^ 35 * left ≤ from + 2 ^ 35 * k)
 
 abbrev μ-loop : tie.MeasureT-loop
 μ-loop table from k at₀ left₀ at left = left
 
 loop-holds : tie.Need-loop-holds Inv-loop μ-loop
 loop-holds c = (refl, omega arith)
-
-number-requires : tie.Need-number-requires Inv-loop μ-loop
-number-requires c κs = search needs
 
 add-after-states : tie.Need-add-after-states Inv-loop μ-loop
 add-after-states c = omega arith
@@ -36,10 +30,12 @@ loop-less : tie.Need-loop-less Inv-loop μ-loop
 loop-less c = omega arith
 
 loop-again : tie.Need-loop-again Inv-loop μ-loop
-loop-again c = (
-  rw (c .after-states .ensures .0, c .before .number .ensures) (sym (pass-process _ _ _ (c .before .before .loop-test .taken)) ∙ c .before .before .before .loop .inv .0),
-  omega arith,
-)
+loop-again c =
+    let at-loop = c .before .before .before in (
+      rw (c .after-states .ensures .0, c .before .number .ensures)
+          (sym (pass-process _ _ _ (c .before .before .loop-test .taken)) ∙ at-loop .loop .inv .0),
+      omega arith,
+    )
 
 returns : tie.Need-returns Inv-loop μ-loop
 returns c =
@@ -49,14 +45,5 @@ returns c =
 pub after-processes-spec : {M : Type 1} → statement M
 after-processes-spec =
     tie.close
-    (tie.spec
-    Inv-loop
-    μ-loop
-    loop-holds
-    number-requires
-    add-after-states
-    after-states-requires
-    sub-left
-    loop-less
-    loop-again
-    returns)
+    (tie.spec Inv-loop μ-loop loop-holds (λ c κs. search needs) add-after-states
+    after-states-requires sub-left loop-less loop-again returns)

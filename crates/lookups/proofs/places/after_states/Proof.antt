@@ -6,9 +6,6 @@ use Rattle.lookups.specs.Places.{afterStates}
 use Rattle.lookups.proofs.Passed.{pass-state, no-states}
 use Rattle.lookups.proofs.places.after_states.Statement.{statement}
 use Rattle.lookups.proofs.places.after_states.Tie as tie
-use Rattle.lookups.proofs.places.after_states.Reads as reads
-use Rattle.lookups.proofs.places.after_states.Lts as lts
-use Rattle.lookups.proofs.places.number.Reads as number-reads
 
 abbrev Inv-loop : tie.InvT-loop
 Inv-loop table from k at₀ left₀ at left = (afterStates table left at ≡ afterStates table k from) × (at + 393211 * left ≤ from + 393211 * k)
@@ -18,9 +15,6 @@ abbrev μ-loop : tie.MeasureT-loop
 
 loop-holds : tie.Need-loop-holds Inv-loop μ-loop
 loop-holds c = (refl, omega arith)
-
-number-requires : tie.Need-number-requires Inv-loop μ-loop
-number-requires c κs = search needs
 
 cast-actions : tie.Need-cast-actions Inv-loop μ-loop
 cast-actions c = omega arith
@@ -41,7 +35,8 @@ loop-less : tie.Need-loop-less Inv-loop μ-loop
 loop-less c = omega arith
 
 loop-again : tie.Need-loop-again Inv-loop μ-loop
-loop-again c = (rw (c .number .ensures) (sym (pass-state _ _ _ (c .before .loop-test .taken)) ∙ c .before .before .loop .inv .0), omega arith)
+loop-again c =
+    (rw (c .number .ensures) (sym (pass-state _ _ _ (c .before .loop-test .taken)) ∙ c .before .before .loop .inv .0), omega arith)
 
 returns : tie.Need-returns Inv-loop μ-loop
 returns c =
@@ -51,16 +46,5 @@ returns c =
 pub after-states-spec : {M : Type 1} → statement M
 after-states-spec =
     tie.close
-    (tie.spec
-    Inv-loop
-    μ-loop
-    loop-holds
-    number-requires
-    cast-actions
-    add-at
-    mul-at
-    add-at-2
-    sub-left
-    loop-less
-    loop-again
-    returns)
+    (tie.spec Inv-loop μ-loop loop-holds (λ c κs. search needs) cast-actions add-at mul-at add-at-2
+    sub-left loop-less loop-again returns)

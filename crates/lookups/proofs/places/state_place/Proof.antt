@@ -4,23 +4,6 @@ use borrow.Author.Needs.{needs}
 use Rattle.lookups.specs.Places.{statePlace}
 use Rattle.lookups.proofs.places.state_place.Statement.{statement}
 use Rattle.lookups.proofs.places.state_place.Tie as tie
-use Rattle.lookups.proofs.places.state_place.Reads as reads
-use Rattle.lookups.proofs.places.state_place.Lts as lts
-use Rattle.lookups.proofs.places.after_states.Reads as after-states-reads
-use Rattle.lookups.proofs.places.before.Reads as before-reads
-use Rattle.lookups.proofs.places.process_place.Reads as process-place-reads
-
-process-place-requires : tie.Need-process-place-requires
-process-place-requires c κs = search needs
-
-add-from : tie.Need-add-from
-add-from c = search needs
-
-before-requires : tie.Need-before-requires
-before-requires c κs = search needs
-
-after-states-requires : tie.Need-after-states-requires
-after-states-requires c κs = search needs
 
 returns : tie.Need-returns
 unfolding statePlace
@@ -30,4 +13,5 @@ returns c =
 pub state-place-spec : {M : Type 1} → statement M
 state-place-spec =
     tie.close
-    (tie.spec process-place-requires add-from before-requires after-states-requires returns)
+    (tie.spec (λ c κs. search needs) (λ c. search needs) (λ c κs. search needs)
+    (λ c κs. search needs) returns)

@@ -2,8 +2,6 @@ use borrow.Author.Tests.{lt-ltb, le-ltb}
 use Rattle.ranges.specs.Values.{within}
 use Rattle.ranges.proofs.allowed.between.Statement.{statement}
 use Rattle.ranges.proofs.allowed.between.Tie as tie
-use Rattle.ranges.proofs.allowed.between.Reads as reads
-use Rattle.ranges.proofs.allowed.between.Lts as lts
 
 returns : tie.Need-returns
 unfolding within

@@ -3,12 +3,6 @@ use Rattle.ranges.specs.Values.{guardOk}
 use borrow.Author.Needs.{needs}
 use Rattle.ranges.proofs.allowed.guard_ok.Statement.{statement}
 use Rattle.ranges.proofs.allowed.guard_ok.Tie as tie
-use Rattle.ranges.proofs.allowed.guard_ok.Reads as reads
-use Rattle.ranges.proofs.allowed.guard_ok.Lts as lts
-use Rattle.ranges.proofs.allowed.uses_nexts.Reads as uses-nexts-reads
-
-uses-nexts-requires : tie.Need-uses-nexts-requires
-uses-nexts-requires c κs = search needs
 
 returns : tie.Need-returns
 unfolding guardOk
@@ -19,4 +13,4 @@ unfolding guardOk
 returns-2 c = rw (sym (c .before .uses-nexts .ensures) ∙ c .if1 .left)
 
 pub guard-ok-spec : {M : Type 1} → statement M
-guard-ok-spec = tie.close (tie.spec uses-nexts-requires returns returns-2)
+guard-ok-spec = tie.close (tie.spec (λ c κs. search needs) returns returns-2)

@@ -3,17 +3,6 @@ use Rattle.ranges.specs.Values.{isInternal}
 use borrow.Author.Needs.{needs}
 use Rattle.ranges.proofs.allowed.is_internal.Statement.{statement}
 use Rattle.ranges.proofs.allowed.is_internal.Tie as tie
-use Rattle.ranges.proofs.allowed.is_internal.Reads as reads
-use Rattle.ranges.proofs.allowed.is_internal.Lts as lts
-
-cast-lo : tie.Need-cast-lo
-cast-lo c = search needs
-
-cast-hi : tie.Need-cast-hi
-cast-hi c = search needs
-
-add-hi : tie.Need-add-hi
-add-hi c = search needs
 
 returns : tie.Need-returns
 unfolding isInternal
@@ -24,4 +13,6 @@ unfolding isInternal
 returns-2 c = rw (le-ltb _ _ (c .if1 .left))
 
 pub is-internal-spec : {M : Type 1} → statement M
-is-internal-spec = tie.close (tie.spec cast-lo cast-hi add-hi returns returns-2)
+is-internal-spec =
+    tie.close
+    (tie.spec (λ c. search needs) (λ c. search needs) (λ c. search needs) returns returns-2)

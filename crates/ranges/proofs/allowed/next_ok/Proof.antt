@@ -1,8 +1,6 @@
 use Rattle.ranges.specs.Values.{nextOk}
 use Rattle.ranges.proofs.allowed.next_ok.Statement.{statement}
 use Rattle.ranges.proofs.allowed.next_ok.Tie as tie
-use Rattle.ranges.proofs.allowed.next_ok.Reads as reads
-use Rattle.ranges.proofs.allowed.next_ok.Lts as lts
 
 returns : tie.Need-returns
 unfolding nextOk

@@ -3,20 +3,14 @@ use Rattle.ranges.specs.Values.{testAOk}
 use borrow.Author.Needs.{needs}
 use Rattle.ranges.proofs.allowed.test_a_ok.Statement.{statement}
 use Rattle.ranges.proofs.allowed.test_a_ok.Tie as tie
-use Rattle.ranges.proofs.allowed.test_a_ok.Reads as reads
-use Rattle.ranges.proofs.allowed.test_a_ok.Lts as lts
-use Rattle.ranges.proofs.allowed.is_variable.Reads as is-variable-reads
 
 returns : tie.Need-returns
 unfolding testAOk
 returns c = rw (eq-eqb _ _ (c .if1 .taken))
-
-is-variable-requires : tie.Need-is-variable-requires
-is-variable-requires c κs = search needs
 
 returns-2 : tie.Need-returns-2
 unfolding testAOk
 returns-2 c = rw (ne-eqb _ _ (c .before .if1 .left)) (c .is-variable .ensures)
 
 pub test-a-ok-spec : {M : Type 1} → statement M
-test-a-ok-spec = tie.close (tie.spec returns is-variable-requires returns-2)
+test-a-ok-spec = tie.close (tie.spec returns (λ c κs. search needs) returns-2)

@@ -28,64 +28,36 @@ put-digits-calls t = (put-byte-reads.Asked, put-byte-reads.Learnt, put-digits-be
 put-digits-returns : (t : ℕ) → put-digits-lts.Need-returns (put-digits-calls t) (put-digits-at t) put-digits.Post
 put-digits-returns t c = none-put _ _ _ _ (c .if1 .taken)
 
-put-digits-cast-put-byte : (t : ℕ) → put-digits-lts.Need-cast-put-byte (put-digits-calls t) (put-digits-at t) put-digits.Post
-put-digits-cast-put-byte t c = search needs
-
-put-digits-add-put-byte : (t : ℕ) → put-digits-lts.Need-add-put-byte (put-digits-calls t) (put-digits-at t) put-digits.Post
-put-digits-add-put-byte t c = search needs
-
-put-digits-put-byte-requires : (t : ℕ) → put-digits-lts.Need-put-byte-requires (put-digits-calls t) (put-digits-at t) put-digits.Post
-put-digits-put-byte-requires t c κs = search needs
-
-put-digits-add-result : (t : ℕ) → put-digits-lts.Need-add-result (put-digits-calls t) (put-digits-at t) put-digits.Post
-put-digits-add-result t c = search needs
-
-put-digits-same-length : (t : ℕ) → put-digits-lts.Need-same-length (put-digits-calls t) (put-digits-at t) put-digits.Post
-put-digits-same-length t c = search needs
-
 put-digits-returns-2 : (t : ℕ) → put-digits-lts.Need-returns-2 (put-digits-calls t) (put-digits-at t) put-digits.Post
-put-digits-returns-2 t c = one-put _ _ _ _ (c .before .before .before .before .before .if1 .left) (c .before .before .before .before .if2 .taken) _ (c .before .before .put-byte .ensures)
-
-put-digits-sub-less : (t : ℕ) → put-digits-lts.Need-sub-less (put-digits-calls t) (put-digits-at t) put-digits.Post
-put-digits-sub-less t c = search needs
-
-put-digits-put-digits-requires : (t : ℕ) → put-digits-lts.Need-put-digits-requires (put-digits-calls t) (put-digits-at t) put-digits.Post
-put-digits-put-digits-requires t c κs = search needs
-
-put-digits-cast-put-byte-2 : (t : ℕ) → put-digits-lts.Need-cast-put-byte-2 (put-digits-calls t) (put-digits-at t) put-digits.Post
-put-digits-cast-put-byte-2 t c = search needs
-
-put-digits-add-put-byte-2 : (t : ℕ) → put-digits-lts.Need-add-put-byte-2 (put-digits-calls t) (put-digits-at t) put-digits.Post
-put-digits-add-put-byte-2 t c = search needs
-
-put-digits-put-byte-requires-2 : (t : ℕ) → put-digits-lts.Need-put-byte-requires-2 (put-digits-calls t) (put-digits-at t) put-digits.Post
-put-digits-put-byte-requires-2 t c κs = search needs
+put-digits-returns-2 t c =
+    let at-if2 = c .before .before .before .before in
+    let at-if1 = at-if2 .before in
+    one-put _ _ _ _ (at-if1 .if1 .left) (at-if2 .if2 .taken) _ (c .before .before .put-byte .ensures)
 
 put-digits-add-result-2 : (t : ℕ) → put-digits-lts.Need-add-result-2 (put-digits-calls t) (put-digits-at t) put-digits.Post
-put-digits-add-result-2 t c = omega (arith, c .before .before .before .before .before .before .before .before .before .before .before .pre .1 .0, c .before .before .before .before .before .before .before .before .before .before .before .pre .1 .1, c .before .before .before .before .before .before .put-digits .ensures .0, digits-most (c .before .before .before .before .before .before .before .before .before .before .before .args .k - 1) (c .before .before .before .before .before .before .before .before .before .before .before .args .n / 10))
-
-put-digits-same-length-2 : (t : ℕ) → put-digits-lts.Need-same-length-2 (put-digits-calls t) (put-digits-at t) put-digits.Post
-put-digits-same-length-2 t c = search needs
+put-digits-add-result-2 t c =
+    let at-put-digits = c .before .before .before .before .before .before in
+    let at-start = at-put-digits .before .before .before .before .before in
+    omega (
+      arith,
+      at-start .pre .1 .0,
+      at-start .pre .1 .1,
+      at-put-digits .put-digits .ensures .0,
+      digits-most (at-start .args .k - 1) (at-start .args .n / 10),
+    )
 
 put-digits-returns-3 : (t : ℕ) → put-digits-lts.Need-returns-3 (put-digits-calls t) (put-digits-at t) put-digits.Post
-put-digits-returns-3 t c = more-put _ _ _ _ (c .before .before .before .before .before .before .before .before .before .if1 .left) (c .before .before .before .before .before .before .before .before .if2 .left) _ _ _ (c .before .before .before .before .before .before .put-digits .ensures) (c .before .before .put-byte2 .ensures)
+put-digits-returns-3 t c =
+    let at-put-digits = c .before .before .before .before .before .before in
+    let at-if2 = at-put-digits .before .before in
+    let at-if1 = at-if2 .before in
+    more-put _ _ _ _ (at-if1 .if1 .left) (at-if2 .if2 .left) _ _ _ (at-put-digits .put-digits .ensures)
+    (c .before .before .put-byte2 .ensures)
 
 pub +put-digits-spec : {M : Type 1} → statement M
-+put-digits-spec = close μ-put-digits λ t. put-digits-lts.spec (put-digits-calls t)
-    (put-digits-at t)
-    put-digits.Post
-    (put-digits-returns t)
-    (put-digits-cast-put-byte t)
-    (put-digits-add-put-byte t)
-    (put-digits-put-byte-requires t)
-    (put-digits-add-result t)
-    (put-digits-same-length t)
-    (put-digits-returns-2 t)
-    (put-digits-sub-less t)
-    (put-digits-put-digits-requires t)
-    (put-digits-cast-put-byte-2 t)
-    (put-digits-add-put-byte-2 t)
-    (put-digits-put-byte-requires-2 t)
-    (put-digits-add-result-2 t)
-    (put-digits-same-length-2 t)
-    (put-digits-returns-3 t)
++put-digits-spec =
+    close μ-put-digits λ t. put-digits-lts.spec (put-digits-calls t) (put-digits-at t)
+    put-digits.Post (put-digits-returns t) (λ c. search needs) (λ c. search needs)
+    (λ c κs. search needs) (λ c. search needs) (λ c. search needs) (put-digits-returns-2 t)
+    (λ c. search needs) (λ c κs. search needs) (λ c. search needs) (λ c. search needs)
+    (λ c κs. search needs) (put-digits-add-result-2 t) (λ c. search needs) (put-digits-returns-3 t)

@@ -2,52 +2,19 @@ use Rattle.report.proofs.Putting.{positions-put}
 use borrow.Author.Needs.{needs}
 use Rattle.report.proofs.lines.put_positions.Statement.{statement}
 use Rattle.report.proofs.lines.put_positions.Tie as tie
-use Rattle.report.proofs.lines.put_positions.Reads as reads
-use Rattle.report.proofs.lines.put_positions.Lts as lts
-use Rattle.report.proofs.lines.put_number.Reads as put-number-reads
-use Rattle.report.proofs.lines.put_word.Reads as put-word-reads
-
-slice-aggregate-put-word : tie.Need-slice-aggregate-put-word
-slice-aggregate-put-word c = search needs
-
-put-word-requires : tie.Need-put-word-requires
-put-word-requires c κs = search needs
-
-put-number-requires : tie.Need-put-number-requires
-put-number-requires c κs = search needs
-
-slice-aggregate-put-word-2 : tie.Need-slice-aggregate-put-word-2
-slice-aggregate-put-word-2 c = search needs
-
-put-word-requires-2 : tie.Need-put-word-requires-2
-put-word-requires-2 c κs = search needs
-
-put-number-requires-2 : tie.Need-put-number-requires-2
-put-number-requires-2 c κs = search needs
-
-slice-aggregate-put-word-3 : tie.Need-slice-aggregate-put-word-3
-slice-aggregate-put-word-3 c = search needs
-
-put-word-requires-3 : tie.Need-put-word-requires-3
-put-word-requires-3 c κs = search needs
-
-same-length : tie.Need-same-length
-same-length c = search needs
 
 returns : tie.Need-returns
-returns c = positions-put _ _ _ _ _ (c .before .before .before .before .before .before .before .before .before .before .before .before .before .before .before .before .before .before .before .before .put-word .ensures) _ _ (c .before .before .before .before .before .before .before .before .before .before .before .before .before .before .before .before .put-number .ensures) _ _ (c .before .before .before .before .before .before .before .before .before .before .before .put-word2 .ensures) _ _ (c .before .before .before .before .before .before .before .put-number2 .ensures) _ _ (c .before .before .put-word3 .ensures)
+returns c =
+    let at-put-number2 = c .before .before .before .before .before .before .before in
+    let at-put-word2 = at-put-number2 .before .before .before .before in
+    let at-put-number = at-put-word2 .before .before .before .before .before in
+    let at-put-word = at-put-number .before .before .before .before in
+    positions-put _ _ _ _ _ (at-put-word .put-word .ensures) _ _ (at-put-number .put-number .ensures) _ _ (at-put-word2 .put-word2 .ensures)
+    _ _ (at-put-number2 .put-number2 .ensures) _ _ (c .before .before .put-word3 .ensures)
 
 pub put-positions-spec : {M : Type 1} → statement M
 put-positions-spec =
     tie.close
-    (tie.spec
-    slice-aggregate-put-word
-    put-word-requires
-    put-number-requires
-    slice-aggregate-put-word-2
-    put-word-requires-2
-    put-number-requires-2
-    slice-aggregate-put-word-3
-    put-word-requires-3
-    same-length
-    returns)
+    (tie.spec (λ c. search needs) (λ c κs. search needs) (λ c κs. search needs) (λ c. search needs)
+    (λ c κs. search needs) (λ c κs. search needs) (λ c. search needs) (λ c κs. search needs)
+    (λ c. search needs) returns)

@@ -3,43 +3,19 @@ use mathlib.Core.Bool.{true, false}
 use borrow.Author.Needs.{needs}
 use Rattle.report.proofs.lines.put_verdict.Statement.{statement}
 use Rattle.report.proofs.lines.put_verdict.Tie as tie
-use Rattle.report.proofs.lines.put_verdict.Reads as reads
-use Rattle.report.proofs.lines.put_verdict.Lts as lts
-use Rattle.report.proofs.lines.put_word.Reads as put-word-reads
-
-slice-aggregate-put-word : tie.Need-slice-aggregate-put-word
-slice-aggregate-put-word c = search needs
-
-put-word-requires : tie.Need-put-word-requires
-put-word-requires c κs = search needs
-
-same-length : tie.Need-same-length
-same-length c = search needs
 
 returns : tie.Need-returns
-returns c = verdict-put _ _ _ _ _ true (c .before .before .before .before .before .if1 .taken) (c .before .before .put-word .ensures)
-
-slice-aggregate-put-word-2 : tie.Need-slice-aggregate-put-word-2
-slice-aggregate-put-word-2 c = search needs
-
-put-word-requires-2 : tie.Need-put-word-requires-2
-put-word-requires-2 c κs = search needs
-
-same-length-2 : tie.Need-same-length-2
-same-length-2 c = search needs
+returns c =
+    let at-if1 = c .before .before .before .before .before in
+    verdict-put _ _ _ _ _ true (at-if1 .if1 .taken) (c .before .before .put-word .ensures)
 
 returns-2 : tie.Need-returns-2
-returns-2 c = verdict-put _ _ _ _ _ false (c .before .before .before .before .before .if1 .left) (c .before .before .put-word2 .ensures)
+returns-2 c =
+    let at-if1 = c .before .before .before .before .before in
+    verdict-put _ _ _ _ _ false (at-if1 .if1 .left) (c .before .before .put-word2 .ensures)
 
 pub put-verdict-spec : {M : Type 1} → statement M
 put-verdict-spec =
     tie.close
-    (tie.spec
-    slice-aggregate-put-word
-    put-word-requires
-    same-length
-    returns
-    slice-aggregate-put-word-2
-    put-word-requires-2
-    same-length-2
-    returns-2)
+    (tie.spec (λ c. search needs) (λ c κs. search needs) (λ c. search needs) returns
+    (λ c. search needs) (λ c κs. search needs) (λ c. search needs) returns-2)

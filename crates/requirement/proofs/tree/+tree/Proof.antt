@@ -26,125 +26,113 @@ abbrev tree-below : ℕ → In 2 tree-kinds.ps
 tree-below t = and 2 tree-kinds.ps (falls 2 tree-kinds.ps _<_ μ-tree t) tree.Pre
 
 abbrev tree-calls : ℕ → tree-lts.Claims
-tree-calls t = (number-at-reads.Asked, number-at-reads.Learnt, tag-in-reads.Asked, tag-in-reads.Learnt, past-reads.Asked, past-reads.Learnt, atom-reads.Asked, atom-reads.Learnt, tree-below t, tree.Post, least-of-reads.Asked, least-of-reads.Learnt)
-
-tree-number-at-requires : (t : ℕ) → tree-lts.Need-number-at-requires (tree-calls t) (tree-at t) tree.Post
-tree-number-at-requires t c κs = search needs
-
-tree-enum-known-cause : (t : ℕ) → tree-lts.Need-enum-known-cause (tree-calls t) (tree-at t) tree.Post
-tree-enum-known-cause t c = search needs
-
-tree-enum-known-v : (t : ℕ) → tree-lts.Need-enum-known-v (tree-calls t) (tree-at t) tree.Post
-tree-enum-known-v t c = search needs
-
-tree-tag-in-requires : (t : ℕ) → tree-lts.Need-tag-in-requires (tree-calls t) (tree-at t) tree.Post
-tree-tag-in-requires t c κs = search needs
-
-tree-past-requires : (t : ℕ) → tree-lts.Need-past-requires (tree-calls t) (tree-at t) tree.Post
-tree-past-requires t c κs = search needs
+tree-calls t = (
+  number-at-reads.Asked,
+  number-at-reads.Learnt,
+  tag-in-reads.Asked,
+  tag-in-reads.Learnt,
+  past-reads.Asked,
+  past-reads.Learnt,
+  atom-reads.Asked,
+  atom-reads.Learnt,
+  tree-below t,
+  tree.Post,
+  least-of-reads.Asked,
+  least-of-reads.Learnt,
+)
 
 tree-returns : (t : ℕ) → tree-lts.Need-returns (tree-calls t) (tree-at t) tree.Post
-tree-returns t c = past-limit _ _ _ _ _ _ _ _ _ (sym (c .before .before .before .before .v .given .1) ∙ c .before .before .before .before .before .before .number-at .ensures) _ (c .before .before .tag-in .ensures) _ (c .past .ensures) (inl (c .before .if1 .taken))
-
-tree-past-requires-2 : (t : ℕ) → tree-lts.Need-past-requires-2 (tree-calls t) (tree-at t) tree.Post
-tree-past-requires-2 t c κs = search needs
+tree-returns t c =
+    let at-v = c .before .before .before .before in
+    let at-number-at = at-v .before .before in
+    past-limit _ _ _ _ _ _ _ _ _ (sym (at-v .v .given .1) ∙ at-number-at .number-at .ensures) _ (c .before .before .tag-in .ensures) _
+    (c .past .ensures) (inl (c .before .if1 .taken))
 
 tree-returns-2 : (t : ℕ) → tree-lts.Need-returns-2 (tree-calls t) (tree-at t) tree.Post
-tree-returns-2 t c = past-limit _ _ _ _ _ _ _ _ _ (sym (c .before .before .before .before .before .v .given .1) ∙ c .before .before .before .before .before .before .before .number-at .ensures) _ (c .before .before .before .tag-in .ensures) _ (c .past2 .ensures) (inr (c .before .before .if1 .left, c .before .if2 .taken))
-
-tree-sub-fewer : (t : ℕ) → tree-lts.Need-sub-fewer (tree-calls t) (tree-at t) tree.Post
-tree-sub-fewer t c = search needs
-
-tree-sub-below : (t : ℕ) → tree-lts.Need-sub-below (tree-calls t) (tree-at t) tree.Post
-tree-sub-below t c = search needs
-
-tree-enum-told : (t : ℕ) → tree-lts.Need-enum-told (tree-calls t) (tree-at t) tree.Post
-tree-enum-told t c = search needs
-
-tree-enum-told-2 : (t : ℕ) → tree-lts.Need-enum-told-2 (tree-calls t) (tree-at t) tree.Post
-tree-enum-told-2 t c = search needs
-
-tree-enum-told-3 : (t : ℕ) → tree-lts.Need-enum-told-3 (tree-calls t) (tree-at t) tree.Post
-tree-enum-told-3 t c = search needs
-
-tree-atom-requires : (t : ℕ) → tree-lts.Need-atom-requires (tree-calls t) (tree-at t) tree.Post
-tree-atom-requires t c κs = search needs
-
-tree-enum-told-4 : (t : ℕ) → tree-lts.Need-enum-told-4 (tree-calls t) (tree-at t) tree.Post
-tree-enum-told-4 t c = search needs
-
-tree-tree-requires : (t : ℕ) → tree-lts.Need-tree-requires (tree-calls t) (tree-at t) tree.Post
-tree-tree-requires t c κs = search needs
-
-tree-enum-told-5 : (t : ℕ) → tree-lts.Need-enum-told-5 (tree-calls t) (tree-at t) tree.Post
-tree-enum-told-5 t c = search needs
-
-tree-tree-requires-2 : (t : ℕ) → tree-lts.Need-tree-requires-2 (tree-calls t) (tree-at t) tree.Post
-tree-tree-requires-2 t c κs = search needs
-
-tree-enum-known-cause-2 : (t : ℕ) → tree-lts.Need-enum-known-cause-2 (tree-calls t) (tree-at t) tree.Post
-tree-enum-known-cause-2 t c = search needs
-
-tree-enum-known-second : (t : ℕ) → tree-lts.Need-enum-known-second (tree-calls t) (tree-at t) tree.Post
-tree-enum-known-second t c = search needs
-
-tree-tree-requires-3 : (t : ℕ) → tree-lts.Need-tree-requires-3 (tree-calls t) (tree-at t) tree.Post
-tree-tree-requires-3 t c κs = search needs
-
-tree-least-of-requires : (t : ℕ) → tree-lts.Need-least-of-requires (tree-calls t) (tree-at t) tree.Post
-tree-least-of-requires t c κs = search needs
+tree-returns-2 t c =
+    let at-tag-in = c .before .before .before in
+    let at-v = at-tag-in .before .before in
+    let at-number-at = at-v .before .before in
+    past-limit _ _ _ _ _ _ _ _ _ (sym (at-v .v .given .1) ∙ at-number-at .number-at .ensures) _ (at-tag-in .tag-in .ensures) _
+    (c .past2 .ensures) (inr (c .before .before .if1 .left, c .before .if2 .taken))
 
 tree-returns-3 : (t : ℕ) → tree-lts.Need-returns-3 (tree-calls t) (tree-at t) tree.Post
-tree-returns-3 t c = no-tag _ _ _ _ _ _ _ _ _ (sym (c .before .cause .given .1) ∙ c .before .before .before .number-at .ensures)
+tree-returns-3 t c =
+    let at-number-at = c .before .before .before in
+    no-tag _ _ _ _ _ _ _ _ _ (sym (c .before .cause .given .1) ∙ at-number-at .number-at .ensures)
 
 tree-returns-4 : (t : ℕ) → tree-lts.Need-returns-4 (tree-calls t) (tree-at t) tree.Post
-tree-returns-4 t c = at-unknown _ _ _ _ _ _ _ _ _ (sym (c .before .before .before .before .before .before .v .given .1) ∙ c .before .before .before .before .before .before .before .before .number-at .ensures) _ (c .before .before .before .before .tag-in .ensures) (c .before .before .before .if1 .left) (c .before .before .if2 .left) (c .enum-told .given .1)
+tree-returns-4 t c =
+    let at-if1 = c .before .before .before in
+    let at-tag-in = at-if1 .before in
+    let at-v = at-tag-in .before .before in
+    let at-number-at = at-v .before .before in
+    at-unknown _ _ _ _ _ _ _ _ _ (sym (at-v .v .given .1) ∙ at-number-at .number-at .ensures) _ (at-tag-in .tag-in .ensures)
+    (at-if1 .if1 .left) (c .before .before .if2 .left) (c .enum-told .given .1)
 
 tree-returns-5 : (t : ℕ) → tree-lts.Need-returns-5 (tree-calls t) (tree-at t) tree.Post
-tree-returns-5 t c = at-mark _ _ _ _ _ _ _ _ _ (sym (c .before .before .before .before .before .before .v .given .1) ∙ c .before .before .before .before .before .before .before .before .number-at .ensures) _ (c .before .before .before .before .tag-in .ensures) (c .before .before .before .if1 .left) (c .before .before .if2 .left) _ (c .enum-told2 .given .1)
+tree-returns-5 t c =
+    let at-if1 = c .before .before .before in
+    let at-tag-in = at-if1 .before in
+    let at-v = at-tag-in .before .before in
+    let at-number-at = at-v .before .before in
+    at-mark _ _ _ _ _ _ _ _ _ (sym (at-v .v .given .1) ∙ at-number-at .number-at .ensures) _ (at-tag-in .tag-in .ensures)
+    (at-if1 .if1 .left) (c .before .before .if2 .left) _ (c .enum-told2 .given .1)
 
 tree-returns-6 : (t : ℕ) → tree-lts.Need-returns-6 (tree-calls t) (tree-at t) tree.Post
-tree-returns-6 t c = at-atom _ _ _ _ _ _ _ _ _ (sym (c .before .before .before .before .before .before .before .v .given .1) ∙ c .before .before .before .before .before .before .before .before .before .number-at .ensures) _ (c .before .before .before .before .before .tag-in .ensures) (c .before .before .before .before .if1 .left) (c .before .before .before .if2 .left) (c .before .enum-told3 .given .1) _ (c .atom .ensures)
+tree-returns-6 t c =
+    let at-if2 = c .before .before .before in
+    let at-if1 = at-if2 .before in
+    let at-tag-in = at-if1 .before in
+    let at-v = at-tag-in .before .before in
+    let at-number-at = at-v .before .before in
+    at-atom _ _ _ _ _ _ _ _ _ (sym (at-v .v .given .1) ∙ at-number-at .number-at .ensures) _ (at-tag-in .tag-in .ensures)
+    (at-if1 .if1 .left) (at-if2 .if2 .left) (c .before .enum-told3 .given .1) _ (c .atom .ensures)
 
 tree-returns-7 : (t : ℕ) → tree-lts.Need-returns-7 (tree-calls t) (tree-at t) tree.Post
-tree-returns-7 t c = at-one _ _ _ _ _ _ _ _ _ (sym (c .before .before .before .before .before .before .before .v .given .1) ∙ c .before .before .before .before .before .before .before .before .before .number-at .ensures) _ (c .before .before .before .before .before .tag-in .ensures) (c .before .before .before .before .if1 .left) (c .before .before .before .if2 .left) _ (c .before .enum-told4 .given .1) _ (c .tree .ensures)
+tree-returns-7 t c =
+    let at-if2 = c .before .before .before in
+    let at-if1 = at-if2 .before in
+    let at-tag-in = at-if1 .before in
+    let at-v = at-tag-in .before .before in
+    let at-number-at = at-v .before .before in
+    at-one _ _ _ _ _ _ _ _ _ (sym (at-v .v .given .1) ∙ at-number-at .number-at .ensures) _ (at-tag-in .tag-in .ensures) (at-if1 .if1 .left)
+    (at-if2 .if2 .left) _ (c .before .enum-told4 .given .1) _ (c .tree .ensures)
 
 tree-returns-8 : (t : ℕ) → tree-lts.Need-returns-8 (tree-calls t) (tree-at t) tree.Post
-tree-returns-8 t c = at-two-refused _ _ _ _ _ _ _ _ _ (sym (c .before .before .before .before .before .before .before .before .before .before .v .given .1) ∙ c .before .before .before .before .before .before .before .before .before .before .before .before .number-at .ensures) _ (c .before .before .before .before .before .before .before .before .tag-in .ensures) (c .before .before .before .before .before .before .before .if1 .left) (c .before .before .before .before .before .before .if2 .left) _ (c .before .before .before .before .enum-told5 .given .1) _ _ (rw (c .before .cause2 .given .1) at (c .before .before .before .tree2 .ensures))
+tree-returns-8 t c =
+    let at-tree2 = c .before .before .before in
+    let at-enum-told5 = at-tree2 .before in
+    let at-if2 = at-enum-told5 .before .before in
+    let at-if1 = at-if2 .before in
+    let at-tag-in = at-if1 .before in
+    let at-v = at-tag-in .before .before in
+    let at-number-at = at-v .before .before in
+    at-two-refused _ _ _ _ _ _ _ _ _ (sym (at-v .v .given .1) ∙ at-number-at .number-at .ensures) _ (at-tag-in .tag-in .ensures)
+    (at-if1 .if1 .left) (at-if2 .if2 .left) _ (at-enum-told5 .enum-told5 .given .1) _ _
+    (rw (c .before .cause2 .given .1) at (at-tree2 .tree2 .ensures))
 
 tree-returns-9 : (t : ℕ) → tree-lts.Need-returns-9 (tree-calls t) (tree-at t) tree.Post
-tree-returns-9 t c = at-two _ _ _ _ _ _ _ _ _ (sym (c .before .before .before .before .before .before .before .before .before .before .before .before .v .given .1) ∙ c .before .before .before .before .before .before .before .before .before .before .before .before .before .before .number-at .ensures) _ (c .before .before .before .before .before .before .before .before .before .before .tag-in .ensures) (c .before .before .before .before .before .before .before .before .before .if1 .left) (c .before .before .before .before .before .before .before .before .if2 .left) _ (c .before .before .before .before .before .before .enum-told5 .given .1) _ _ _ (rw (c .before .before .before .second .given .1) at (c .before .before .before .before .before .tree2 .ensures)) (c .before .tree3 .result) _ (c .before .tree3 .ensures) (c .least-of .ensures)
+tree-returns-9 t c =
+    let at-second = c .before .before .before in
+    let at-tree2 = at-second .before .before in
+    let at-enum-told5 = at-tree2 .before in
+    let at-if2 = at-enum-told5 .before .before in
+    let at-if1 = at-if2 .before in
+    let at-tag-in = at-if1 .before in
+    let at-v = at-tag-in .before .before in
+    let at-number-at = at-v .before .before in
+    at-two _ _ _ _ _ _ _ _ _ (sym (at-v .v .given .1) ∙ at-number-at .number-at .ensures) _ (at-tag-in .tag-in .ensures) (at-if1 .if1 .left)
+    (at-if2 .if2 .left) _ (at-enum-told5 .enum-told5 .given .1) _ _ _ (rw (at-second .second .given .1) at (at-tree2 .tree2 .ensures))
+    (c .before .tree3 .result) _ (c .before .tree3 .ensures) (c .least-of .ensures)
 
 pub +tree-spec : {M : Type 1} → statement M
-+tree-spec = close μ-tree λ t. tree-lts.spec (tree-calls t)
-    (tree-at t)
-    tree.Post
-    (tree-number-at-requires t)
-    (tree-enum-known-cause t)
-    (tree-enum-known-v t)
-    (tree-tag-in-requires t)
-    (tree-past-requires t)
-    (tree-returns t)
-    (tree-past-requires-2 t)
-    (tree-returns-2 t)
-    (tree-sub-fewer t)
-    (tree-sub-below t)
-    (tree-enum-told t)
-    (tree-enum-told-2 t)
-    (tree-enum-told-3 t)
-    (tree-atom-requires t)
-    (tree-enum-told-4 t)
-    (tree-tree-requires t)
-    (tree-enum-told-5 t)
-    (tree-tree-requires-2 t)
-    (tree-enum-known-cause-2 t)
-    (tree-enum-known-second t)
-    (tree-tree-requires-3 t)
-    (tree-least-of-requires t)
-    (tree-returns-3 t)
-    (tree-returns-4 t)
-    (tree-returns-5 t)
-    (tree-returns-6 t)
-    (tree-returns-7 t)
-    (tree-returns-8 t)
-    (tree-returns-9 t)
++tree-spec =
+    close μ-tree λ t. tree-lts.spec (tree-calls t) (tree-at t) tree.Post (λ c κs. search needs)
+    (λ c. search needs) (λ c. search needs) (λ c κs. search needs) (λ c κs. search needs)
+    (tree-returns t) (λ c κs. search needs) (tree-returns-2 t) (λ c. search needs)
+    (λ c. search needs) (λ c. search needs) (λ c. search needs) (λ c. search needs)
+    (λ c κs. search needs) (λ c. search needs) (λ c κs. search needs) (λ c. search needs)
+    (λ c κs. search needs) (λ c. search needs) (λ c. search needs) (λ c κs. search needs)
+    (λ c κs. search needs) (tree-returns-3 t) (tree-returns-4 t) (tree-returns-5 t)
+    (tree-returns-6 t) (tree-returns-7 t) (tree-returns-8 t) (tree-returns-9 t)

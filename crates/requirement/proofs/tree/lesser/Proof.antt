@@ -1,8 +1,6 @@
 use Rattle.requirement.proofs.Parts.{least-first, least-second}
 use Rattle.requirement.proofs.tree.lesser.Statement.{statement}
 use Rattle.requirement.proofs.tree.lesser.Tie as tie
-use Rattle.requirement.proofs.tree.lesser.Reads as reads
-use Rattle.requirement.proofs.tree.lesser.Lts as lts
 
 returns : tie.Need-returns
 returns c = least-first _ _ (c .if1 .taken)

@@ -3,8 +3,6 @@ use Rattle.run.specs.Working.Atoms.{equals}
 use Rattle.run.proofs.LaidOut.{equal-asked, greater-asked}
 use Rattle.run.proofs.atoms.equals.Statement.{statement}
 use Rattle.run.proofs.atoms.equals.Tie as tie
-use Rattle.run.proofs.atoms.equals.Reads as reads
-use Rattle.run.proofs.atoms.equals.Lts as lts
 
 returns : tie.Need-returns
 unfolding equals

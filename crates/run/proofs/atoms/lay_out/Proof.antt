@@ -5,9 +5,6 @@ use Rattle.run.proofs.LaidOut.{none-laid, next-laid, all-laid}
 use borrow.Author.Needs.{needs}
 use Rattle.run.proofs.atoms.lay_out.Statement.{statement}
 use Rattle.run.proofs.atoms.lay_out.Tie as tie
-use Rattle.run.proofs.atoms.lay_out.Reads as reads
-use Rattle.run.proofs.atoms.lay_out.Lts as lts
-use Rattle.run.proofs.atoms.lay_out_test.Reads as lay-out-test-reads
 
 abbrev Inv-loop : tie.InvT-loop
 Inv-loop table laid₀ k₀ laid k = (k ≤ 32) × LaidOutTo k table laid
@@ -18,20 +15,11 @@ abbrev μ-loop : tie.MeasureT-loop
 loop-holds : tie.Need-loop-holds Inv-loop μ-loop
 loop-holds c = (omega arith, none-laid _ _ (c .before .before .pre))
 
-lay-out-test-requires : tie.Need-lay-out-test-requires Inv-loop μ-loop
-lay-out-test-requires c κs = search needs
-
-add-k : tie.Need-add-k Inv-loop μ-loop
-add-k c = search needs
-
 loop-less : tie.Need-loop-less Inv-loop μ-loop
 loop-less c = omega arith
 
 loop-again : tie.Need-loop-again Inv-loop μ-loop
 loop-again c = (omega arith, next-laid _ _ _ (c .before .before .lay-out-test .ensures))
-
-same-length : tie.Need-same-length Inv-loop μ-loop
-same-length c = search needs
 
 returns : tie.Need-returns Inv-loop μ-loop
 returns c = all-laid _ _ _ (c .before .loop .inv .0) (c .loop-test .left) (c .before .loop .inv .1)
@@ -39,13 +27,5 @@ returns c = all-laid _ _ _ (c .before .loop .inv .0) (c .loop-test .left) (c .be
 pub lay-out-spec : {M : Type 1} → statement M
 lay-out-spec =
     tie.close
-    (tie.spec
-    Inv-loop
-    μ-loop
-    loop-holds
-    lay-out-test-requires
-    add-k
-    loop-less
-    loop-again
-    same-length
-    returns)
+    (tie.spec Inv-loop μ-loop loop-holds (λ c κs. search needs) (λ c. search needs) loop-less
+    loop-again (λ c. search needs) returns)

@@ -4,8 +4,6 @@ use Rattle.run.proofs.Seen.{ValuesTo, no-value, value-more, all-values}
 use borrow.Author.Needs.{needs}
 use Rattle.run.proofs.atoms.see_values.Statement.{statement}
 use Rattle.run.proofs.atoms.see_values.Tie as tie
-use Rattle.run.proofs.atoms.see_values.Reads as reads
-use Rattle.run.proofs.atoms.see_values.Lts as lts
 
 abbrev Inv-loop : tie.InvT-loop
 Inv-loop seen₀ values x₀ seen x = ValuesTo x values seen₀ seen
@@ -16,20 +14,8 @@ abbrev μ-loop : tie.MeasureT-loop
 loop-holds : tie.Need-loop-holds Inv-loop μ-loop
 loop-holds c = no-value _ _
 
-mul-seen : tie.Need-mul-seen Inv-loop μ-loop
-mul-seen c = search needs
-
-array-read-seen : tie.Need-array-read-seen Inv-loop μ-loop
-array-read-seen c = search needs
-
-mul-seen-2 : tie.Need-mul-seen-2 Inv-loop μ-loop
-mul-seen-2 c = search needs
-
 slice-write-seen : tie.Need-slice-write-seen Inv-loop μ-loop
 slice-write-seen c = let size = c .before .loop .inv .size in omega arith
-
-add-x : tie.Need-add-x Inv-loop μ-loop
-add-x c = search needs
 
 loop-less : tie.Need-loop-less Inv-loop μ-loop
 loop-less c = omega arith
@@ -46,16 +32,6 @@ returns c = all-values _ _ _ _ (c .loop-test .left) (c .before .loop .inv)
 pub see-values-spec : {M : Type 1} → statement M
 see-values-spec =
     tie.close
-    (tie.spec
-    Inv-loop
-    μ-loop
-    loop-holds
-    mul-seen
-    array-read-seen
-    mul-seen-2
-    slice-write-seen
-    add-x
-    loop-less
-    loop-again
-    same-length
+    (tie.spec Inv-loop μ-loop loop-holds (λ c. search needs) (λ c. search needs)
+    (λ c. search needs) slice-write-seen (λ c. search needs) loop-less loop-again same-length
     returns)

@@ -1,11 +1,8 @@
 use mathlib.Core.Path.{refl}
 use borrow.Author.Tests.{eq-eqb, ne-eqb}
 use Rattle.run.specs.Moves.{active}
-use borrow.Author.Needs.{needs}
 use Rattle.run.proofs.moves.active.Statement.{statement}
 use Rattle.run.proofs.moves.active.Tie as tie
-use Rattle.run.proofs.moves.active.Reads as reads
-use Rattle.run.proofs.moves.active.Lts as lts
 
 returns : tie.Need-returns
 unfolding active

@@ -5,64 +5,41 @@ use Rattle.run.specs.Moves.{moveOf}
 use borrow.Author.Needs.{needs}
 use Rattle.run.proofs.moves.make_move.Statement.{statement}
 use Rattle.run.proofs.moves.make_move.Tie as tie
-use Rattle.run.proofs.moves.make_move.Reads as reads
-use Rattle.run.proofs.moves.make_move.Lts as lts
-use Rattle.lookups.proofs.processes.Reads as processes-reads
-use Rattle.run.proofs.moves.action_move.Reads as action-move-reads
-use Rattle.run.proofs.moves.after_read.Reads as after-read-reads
-use Rattle.run.proofs.moves.after_write.Reads as after-write-reads
-use Rattle.run.proofs.moves.to.Reads as to-reads
-use Rattle.scan.proofs.read.Reads as read-reads
-use Rattle.scan.proofs.write.Reads as write-reads
-
-read-requires : tie.Need-read-requires
-read-requires c κs = search needs
-
-after-read-requires : tie.Need-after-read-requires
-after-read-requires c κs = search needs
-
-to-requires : tie.Need-to-requires
-to-requires c κs = search needs
 
 returns : tie.Need-returns
 unfolding moveOf
-returns c = rw (eq-eqb _ _ (c .before .before .before .if1 .taken), c .to .ensures, c .before .after-read .ensures, c .before .before .read .ensures) refl
-
-processes-requires : tie.Need-processes-requires
-processes-requires c κs = search needs
-
-write-requires : tie.Need-write-requires
-write-requires c κs = search needs
-
-after-write-requires : tie.Need-after-write-requires
-after-write-requires c κs = search needs
-
-to-requires-2 : tie.Need-to-requires-2
-to-requires-2 c κs = search needs
+returns c =
+    let at-if1 = c .before .before .before in
+    rw (eq-eqb _ _ (at-if1 .if1 .taken), c .to .ensures, c .before .after-read .ensures, c .before .before .read .ensures) refl
 
 returns-2 : tie.Need-returns-2
 unfolding moveOf
-returns-2 c = rw (ne-eqb _ _ (c .before .before .before .before .before .if1 .left), ← c .before .before .before .before .processes .ensures, lt-ltb (c .before .before .before .before .processes .result) (c .before .before .before .before .before .before .before .before .before .before .args .m .state .counter) (omega (arith, c .before .before .before .if2 .taken)), c .to2 .ensures, c .before .after-write .ensures, c .before .before .write .ensures) refl
-
-action-move-requires : tie.Need-action-move-requires
-action-move-requires c κs = search needs
+returns-2 c =
+    let at-if2 = c .before .before .before in
+    let at-start = at-if2 .before .before .before .before .before .before .before in
+    rw (
+      ne-eqb _ _ (at-if2 .before .before .if1 .left),
+      ← at-if2 .before .processes .ensures,
+      lt-ltb (at-if2 .before .processes .result) (at-start .args .m .state .counter) (omega (arith, at-if2 .if2 .taken)),
+      c .to2 .ensures,
+      c .before .after-write .ensures,
+      c .before .before .write .ensures,
+    ) refl
 
 returns-3 : tie.Need-returns-3
 unfolding moveOf
-returns-3 c = rw (ne-eqb _ _ (c .before .before .before .if1 .left), ← c .before .before .processes .ensures, le-ltb (c .before .before .processes .result) (c .before .before .before .before .before .before .before .before .args .m .state .counter) (omega (arith, c .before .if2 .left))) (c .action-move .ensures)
+returns-3 c =
+    let at-if1 = c .before .before .before in
+    let at-start = at-if1 .before .before .before .before .before in
+    rw (
+      ne-eqb _ _ (at-if1 .if1 .left),
+      ← c .before .before .processes .ensures,
+      le-ltb (c .before .before .processes .result) (at-start .args .m .state .counter) (omega (arith, c .before .if2 .left)),
+    ) (c .action-move .ensures)
 
 pub make-move-spec : {M : Type 1} → statement M
 make-move-spec =
     tie.close
-    (tie.spec
-    read-requires
-    after-read-requires
-    to-requires
-    returns
-    processes-requires
-    write-requires
-    after-write-requires
-    to-requires-2
-    returns-2
-    action-move-requires
-    returns-3)
+    (tie.spec (λ c κs. search needs) (λ c κs. search needs) (λ c κs. search needs) returns
+    (λ c κs. search needs) (λ c κs. search needs) (λ c κs. search needs) (λ c κs. search needs)
+    returns-2 (λ c κs. search needs) returns-3)

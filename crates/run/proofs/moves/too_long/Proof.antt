@@ -3,11 +3,8 @@ use mathlib.Core.Path.{refl}
 use borrow.Author.Tests.{lt-ltb, le-ltb}
 use Rattle.run.specs.Limits.{longestTurn}
 use Rattle.run.specs.Moves.{tooLong}
-use borrow.Author.Needs.{needs}
 use Rattle.run.proofs.moves.too_long.Statement.{statement}
 use Rattle.run.proofs.moves.too_long.Tie as tie
-use Rattle.run.proofs.moves.too_long.Reads as reads
-use Rattle.run.proofs.moves.too_long.Lts as lts
 
 returns : tie.Need-returns
 unfolding tooLong

@@ -4,20 +4,10 @@ use lib.ListN.{List·getD-eq-default}
 use borrow.Author.Needs.{needs}
 use Rattle.table.proofs.tests.count_at.Statement.{statement}
 use Rattle.table.proofs.tests.count_at.Tie as tie
-use Rattle.table.proofs.tests.count_at.Reads as reads
-use Rattle.table.proofs.tests.count_at.Lts as lts
-
-mul-result : tie.Need-mul-result
-mul-result c = search needs
-
-shared-slice-read-result : tie.Need-shared-slice-read-result
-shared-slice-read-result c = search needs
-
-returns : tie.Need-returns
-returns c = search needs
 
 returns-2 : tie.Need-returns-2
 returns-2 c = sym (List·getD-eq-default (now (c .before .args .counts)) 0 (c .if1 .left))
 
 pub count-at-spec : {M : Type 1} → statement M
-count-at-spec = tie.close (tie.spec mul-result shared-slice-read-result returns returns-2)
+count-at-spec =
+    tie.close (tie.spec (λ c. search needs) (λ c. search needs) (λ c. search needs) returns-2)

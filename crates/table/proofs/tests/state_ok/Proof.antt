@@ -1,8 +1,6 @@
 use Rattle.table.proofs.SecondLook.{is-err, no-err}
 use Rattle.table.proofs.tests.state_ok.Statement.{statement}
 use Rattle.table.proofs.tests.state_ok.Tie as tie
-use Rattle.table.proofs.tests.state_ok.Reads as reads
-use Rattle.table.proofs.tests.state_ok.Lts as lts
 
 returns : tie.Need-returns
 returns c = is-err _ _ (c .if1 .taken)

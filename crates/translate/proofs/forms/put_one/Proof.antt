@@ -3,15 +3,6 @@ use borrow.Author.Needs.{needs}
 use Rattle.translate.proofs.forms.put_one.Statement.{statement}
 use Rattle.translate.proofs.forms.put_one.Tie as tie
 
-slice-write-out : tie.Need-slice-write-out
-slice-write-out c = search needs
-
-add-result : tie.Need-add-result
-add-result c = search needs
-
-same-length : tie.Need-same-length
-same-length c = search needs
-
 returns : tie.Need-returns
 returns c = put-there _ _ _ (c .if1 .taken)
 
@@ -19,4 +10,6 @@ returns-2 : tie.Need-returns-2
 returns-2 c = put-dropped _ _ _ (c .before .pre) (c .if1 .left)
 
 pub put-one-spec : {M : Type 1} → statement M
-put-one-spec = tie.close (tie.spec slice-write-out add-result same-length returns returns-2)
+put-one-spec =
+    tie.close
+    (tie.spec (λ c. search needs) (λ c. search needs) (λ c. search needs) returns returns-2)

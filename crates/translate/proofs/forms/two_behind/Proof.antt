@@ -3,55 +3,32 @@ use borrow.Author.Needs.{needs}
 use Rattle.translate.proofs.forms.two_behind.Statement.{statement}
 use Rattle.translate.proofs.forms.two_behind.Tie as tie
 
-enum-told : tie.Need-enum-told
-enum-told c = search needs
-
-enum-known-operator : tie.Need-enum-known-operator
-enum-known-operator c = search needs
-
-enum-told-2 : tie.Need-enum-told-2
-enum-told-2 c = search needs
-
-enum-told-3 : tie.Need-enum-told-3
-enum-told-3 c = search needs
-
-slice-aggregate-put-all : tie.Need-slice-aggregate-put-all
-slice-aggregate-put-all c = search needs
-
-put-all-requires : tie.Need-put-all-requires
-put-all-requires c κs = search needs
-
-enum-told-4 : tie.Need-enum-told-4
-enum-told-4 c = search needs
-
 returns : tie.Need-returns
-returns c = rw (c .enum-told .given .1) (put-none _ _ (c .before .before .before .pre))
+returns c =
+    let at-start = c .before .before .before in
+    rw (c .enum-told .given .1) (put-none _ _ (at-start .pre))
 
 returns-2 : tie.Need-returns-2
-returns-2 c = rw (c .before .before .before .operator .given .1, c .enum-told2 .given .1) (put-none _ _ (c .before .before .before .before .before .before .pre))
-
-same-length : tie.Need-same-length
-same-length c = search needs
+returns-2 c =
+    let at-operator = c .before .before .before in
+    let at-start = at-operator .before .before .before in
+    rw (at-operator .operator .given .1, c .enum-told2 .given .1) (put-none _ _ (at-start .pre))
 
 returns-3 : tie.Need-returns-3
-returns-3 c = rw (c .before .before .before .before .before .before .before .before .operator .given .1, c .before .before .before .before .before .enum-told3 .given .1) (c .before .before .put-all .ensures)
+returns-3 c =
+    let at-enum-told3 = c .before .before .before .before .before in
+    let at-operator = at-enum-told3 .before .before .before in
+    rw (at-operator .operator .given .1, at-enum-told3 .enum-told3 .given .1) (c .before .before .put-all .ensures)
 
 returns-4 : tie.Need-returns-4
-returns-4 c = rw (c .before .before .before .operator .given .1, c .enum-told4 .given .1) (put-none _ _ (c .before .before .before .before .before .before .pre))
+returns-4 c =
+    let at-operator = c .before .before .before in
+    let at-start = at-operator .before .before .before in
+    rw (at-operator .operator .given .1, c .enum-told4 .given .1) (put-none _ _ (at-start .pre))
 
 pub two-behind-spec : {M : Type 1} → statement M
 two-behind-spec =
     tie.close
-    (tie.spec
-    enum-told
-    enum-known-operator
-    enum-told-2
-    enum-told-3
-    slice-aggregate-put-all
-    put-all-requires
-    enum-told-4
-    returns
-    returns-2
-    same-length
-    returns-3
-    returns-4)
+    (tie.spec (λ c. search needs) (λ c. search needs) (λ c. search needs) (λ c. search needs)
+    (λ c. search needs) (λ c κs. search needs) (λ c. search needs) returns returns-2
+    (λ c. search needs) returns-3 returns-4)

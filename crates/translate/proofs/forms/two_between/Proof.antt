@@ -3,71 +3,34 @@ use borrow.Author.Needs.{needs}
 use Rattle.translate.proofs.forms.two_between.Statement.{statement}
 use Rattle.translate.proofs.forms.two_between.Tie as tie
 
-enum-told : tie.Need-enum-told
-enum-told c = search needs
-
-enum-known-operator : tie.Need-enum-known-operator
-enum-known-operator c = search needs
-
-enum-told-2 : tie.Need-enum-told-2
-enum-told-2 c = search needs
-
-enum-told-3 : tie.Need-enum-told-3
-enum-told-3 c = search needs
-
-slice-aggregate-put-all : tie.Need-slice-aggregate-put-all
-slice-aggregate-put-all c = search needs
-
-put-all-requires : tie.Need-put-all-requires
-put-all-requires c κs = search needs
-
-enum-known-family : tie.Need-enum-known-family
-enum-known-family c = search needs
-
-mark-of-requires : tie.Need-mark-of-requires
-mark-of-requires c κs = search needs
-
-slice-aggregate-put-all-2 : tie.Need-slice-aggregate-put-all-2
-slice-aggregate-put-all-2 c = search needs
-
-put-all-requires-2 : tie.Need-put-all-requires-2
-put-all-requires-2 c κs = search needs
-
 returns : tie.Need-returns
-returns c = rw (c .enum-told .given .1) (put-none _ _ (c .before .before .before .pre))
+returns c =
+    let at-start = c .before .before .before in
+    rw (c .enum-told .given .1) (put-none _ _ (at-start .pre))
 
 returns-2 : tie.Need-returns-2
-returns-2 c = rw (c .before .before .before .operator .given .1, c .enum-told2 .given .1) (put-none _ _ (c .before .before .before .before .before .before .pre))
-
-same-length : tie.Need-same-length
-same-length c = search needs
+returns-2 c =
+    let at-operator = c .before .before .before in
+    let at-start = at-operator .before .before .before in
+    rw (at-operator .operator .given .1, c .enum-told2 .given .1) (put-none _ _ (at-start .pre))
 
 returns-3 : tie.Need-returns-3
-returns-3 c = rw (c .before .before .before .before .before .before .before .before .operator .given .1, c .before .before .before .before .before .enum-told3 .given .1) (c .before .before .put-all .ensures)
-
-same-length-2 : tie.Need-same-length-2
-same-length-2 c = search needs
+returns-3 c =
+    let at-enum-told3 = c .before .before .before .before .before in
+    let at-operator = at-enum-told3 .before .before .before in
+    rw (at-operator .operator .given .1, at-enum-told3 .enum-told3 .given .1) (c .before .before .put-all .ensures)
 
 returns-4 : tie.Need-returns-4
-returns-4 c = rw (c .before .before .before .before .before .before .before .before .before .before .operator .given .1, c .before .before .before .before .before .before .before .family .given .1, ← c .before .before .before .before .before .mark-of .ensures) (c .before .before .put-all2 .ensures)
+returns-4 c =
+    let at-mark-of = c .before .before .before .before .before in
+    let at-family = at-mark-of .before .before in
+    let at-operator = at-family .before .before .before in
+    rw (at-operator .operator .given .1, at-family .family .given .1, ← at-mark-of .mark-of .ensures) (c .before .before .put-all2 .ensures)
 
 pub two-between-spec : {M : Type 1} → statement M
 two-between-spec =
     tie.close
-    (tie.spec
-    enum-told
-    enum-known-operator
-    enum-told-2
-    enum-told-3
-    slice-aggregate-put-all
-    put-all-requires
-    enum-known-family
-    mark-of-requires
-    slice-aggregate-put-all-2
-    put-all-requires-2
-    returns
-    returns-2
-    same-length
-    returns-3
-    same-length-2
-    returns-4)
+    (tie.spec (λ c. search needs) (λ c. search needs) (λ c. search needs) (λ c. search needs)
+    (λ c. search needs) (λ c κs. search needs) (λ c. search needs) (λ c κs. search needs)
+    (λ c. search needs) (λ c κs. search needs) returns returns-2 (λ c. search needs) returns-3
+    (λ c. search needs) returns-4)
