@@ -1,5 +1,5 @@
--- What is right to answer when a table is run over recorded inputs and a requirement is judged on the trace that the run left: by the rules of the actions and the
--- meaning of the requirement alone.
+-- What is right to answer when a table is run over recorded inputs and a requirement is judged on the trace that the
+-- run left: by the rules of the actions and the meaning of the requirement alone.
 -- Assumes nothing: these are definitions.
 use Prim.Native.Nat.{ℕ, _*_}
 use mathlib.Core.Path.{_≡_}
@@ -15,12 +15,14 @@ use Rattle.run.specs.Trace.{leftIn, numbersIn}
 use Rattle.run.specs.declared.Ran.the-variants.{Closed}
 use Rattle.endless.specs.ByTheRules.{ByTheRules}
 
--- The trace as it is handed on: the first 5 bytes for each of n positions of the buffer that was lent to the run of these table bytes over these inputs bytes.
+-- The trace as it is handed on: the first 5 bytes for each of n positions of the buffer that was lent to the run of
+-- these table bytes over these inputs bytes.
 abbrev pub handedOn : List ℕ → List ℕ → List ℕ → ℕ → ℕ → List ℕ
 handedOn table inputs trace n start = take (n * 5) (leftIn (Closed n start) (numbersIn table) (numbersIn inputs) trace)
 
--- The answer is the verdict of requirement f at moment 0 of the run that the rules give for these bytes, and how many findings it has among the n positions; the list
--- holds them from its front on and is otherwise as it was; work is all zero.
+-- The answer is the verdict of requirement f at moment 0 of the run that the rules give for these bytes, and how many
+-- findings it has among the n positions; the list holds them from its front on and is otherwise as it was; work is all
+-- zero.
 pub record RightlyJudged (table inputs : List ℕ) (f : Requirement) (n : ℕ) (work list work′ list′ : List ℕ) (answer : Judged) : Type 0 where
   pub holds : Bool
   pub found : List ℕ

@@ -34,7 +34,8 @@ module _ {T I : List ℕ} {n start : ℕ} (h : Ended T I n start) (f : Requireme
       sym (ap (lassoOf h .phaseAt) (stored (formed h) i inside)) ∙ ap (λ (r : Run). r .phase i) (same-run h) in
       (λ e. sym same ∙ e, λ e. same ∙ e)
 
-  by-run : (holds : Bool) (found : List ℕ) → (holds ≡ true) ↔ Holds (endless (lassoOf h)) f 0 → Findings (lassoOf h) f found → ByTheRules T I f n holds found
+  by-run : (holds : Bool) (found : List ℕ) → (holds ≡ true) ↔ Holds (endless (lassoOf h)) f 0 →
+      Findings (lassoOf h) f found → ByTheRules T I f n holds found
   by-run holds found v g = record {
     verdict = rw (meant 0) at v;
     ascending = g .ascending;
@@ -47,7 +48,8 @@ module _ {T I : List ℕ} {n start : ℕ} (h : Ended T I n start) (f : Requireme
   }
 
 -- From the bytes of a table and of an inputs record.
-pub by-the-rules : (room n start : ℕ) (table inputs : List ℕ) → runOf room table inputs ≡ Closed n start → (f : Requirement) (holds : Bool) (found : List ℕ) →
+pub by-the-rules : (room n start : ℕ) (table inputs : List ℕ) → runOf room table inputs ≡ Closed n start →
+    (f : Requirement) (holds : Bool) (found : List ℕ) →
     let T = numbersIn table in
     let I = numbersIn inputs in
     let lasso = traceOf (traceBytes T I n) start in

@@ -1,4 +1,5 @@
--- What an accepted run is: its trace is a well-formed lasso, and that lasso's endless run is the run of the rules when the inputs after scan b repeat for ever.
+-- What an accepted run is: its trace is a well-formed lasso, and that lasso's endless run is the run of the rules when
+-- the inputs after scan b repeat for ever.
 -- Assumes nothing.
 use Prim.Native.Nat.{ℕ}
 use mathlib.Core.Path.{_≡_}
@@ -33,5 +34,6 @@ unrolled room n start table inputs e = same-run (ended room n start table inputs
 pub goes-on : (room n start : ℕ) (table inputs : List ℕ) → runOf room table inputs ≡ Closed n start →
     let T = numbersIn table in
     let I = numbersIn inputs in
-    (m : ℕ) → moveOf T I (recordedScan (scansOf I) (returnOf I) (endlessState T I m .scan)) (endlessState T I m) .going ≡ On
+    (m : ℕ) →
+    moveOf T I (recordedScan (scansOf I) (returnOf I) (endlessState T I m .scan)) (endlessState T I m) .going ≡ On
 goes-on room n start table inputs e m = on-then (ended room n start table inputs e) m

@@ -1,4 +1,5 @@
--- The endless run of the rules, when the inputs after scan b repeat for ever: what the lasso of a closed run stands for.
+-- The endless run of the rules, when the inputs after scan b repeat for ever: what the lasso of a closed run stands
+-- for.
 -- Assumes nothing: these are definitions.
 use Prim.Native.Nat.{ℕ, zero, suc, _+_, _-_, _%_}
 use mathlib.Core.List.{List}
@@ -12,7 +13,8 @@ use Rattle.scan.specs.Guards.{atomOf}
 use Rattle.run.specs.Moves.{begun, moveOf}
 use Rattle.run.specs.declared.Machine.{Machine}
 
--- Which recorded scan gives the inputs where so many scans are done, both from 0: the recorded ones in turn, and then again those after scan b, for ever.
+-- Which recorded scan gives the inputs where so many scans are done, both from 0: the recorded ones in turn, and then
+-- again those after scan b, for ever.
 unfoldable pub recordedScan : ℕ → ℕ → ℕ → ℕ
 recordedScan q b done = pick (ltb done q) done (b + (done - b) % (q - b))
 
@@ -23,7 +25,8 @@ endlessState T I (suc n) =
     let m = endlessState T I n in
     moveOf T I (recordedScan (scansOf I) (returnOf I) (m .scan)) m .machine
 
--- The same as a run on which requirements have a meaning: the phase of each of its states, and of atom k whether test k is true of it; an atom without a test is false.
+-- The same as a run on which requirements have a meaning: the phase of each of its states, and of atom k whether test k
+-- is true of it; an atom without a test is false.
 abbrev pub rulesRun : List ℕ → List ℕ → Run
 rulesRun T I =
     record {

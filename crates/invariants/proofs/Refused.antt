@@ -76,7 +76,8 @@ module _ (T I : List ℕ) (k : ℕ) where
   From more n = reached T I k more n (stateAt T I n)
 
   further : (more n : ℕ) → ltb (stateAt T I n .scan) k ≡ true → recordedMove T I (stateAt T I n) .going ≡ On →
-      Told T I k (suc n) (From more (suc n)) (From more (suc n) .going) → Told T I k n (From (suc more) n) (From (suc more) n .going)
+      Told T I k (suc n) (From more (suc n)) (From more (suc n) .going) →
+      Told T I k n (From (suc more) n) (From (suc more) n .going)
   unfolding stateAt
   further more n e f next =
       rw (goes-on T I k n (stateAt T I n) more e f) (one-sooner n (From more (suc n)) (From more (suc n) .going) f next)
@@ -158,7 +159,8 @@ module _ (T I : List ℕ) where
 
   by-closing : (back last : Reached) → back .machine ≡ stateAt T I (back .number) →
       last .machine ≡ stateAt T I (last .number) →
-      AfterScan T I (returnOf I) (back .number) → AfterScan T I (scansOf I) (last .number) → Ends T I (closing (scansOf I) back last)
+      AfterScan T I (returnOf I) (back .number) → AfterScan T I (scansOf I) (last .number) →
+      Ends T I (closing (scansOf I) back last)
   unfolding closing
   by-closing back last e f b l = go (sameState (last .machine .state) (back .machine .state)) refl
     where

@@ -207,7 +207,8 @@ turns-ordered (turn h t ts) = let a = t .some in let b = turns-ordered ts in ome
 pub between-outputs : {T I : List ℕ} {taking : ℕ → ℕ} {state : ℕ → Machine} (r : RunOf T I taking state) →
     1 ≤ processesOf T → processesOf T < 65535 →
     (read end : ℕ) → read < end → ((k : ℕ) → read ≤ k → k < end → moveAt T I taking state k .going ≡ On) →
-    state read .phase ≡ Output → state end .phase ≡ Output → ((k : ℕ) → read < k → k < end → ¬ (state k .phase ≡ Output)) →
+    state read .phase ≡ Output → state end .phase ≡ Output →
+    ((k : ℕ) → read < k → k < end → ¬ (state k .phase ≡ Output)) →
     (write : ℕ) × ScanOf T state read write × (end ≡ suc write)
 between-outputs {T} {I} {taking} {state} r some few read end l on out last between =
     let (write, scan) = scan-turns r some few read (λ k a w. on k a (before k a w (decLt k end))) out in

@@ -54,7 +54,8 @@ unfolding readingOf
 holding-set {T} {I} {v} {d} small h k b = rw (h .values k b) (small _)
 
 -- In every state after the first read, of the recorded-is-run run and of the endless run alike.
-pub never-unset : (table inputs : List ℕ) (n : ℕ) → tableGrammar mostProcesses (codeAt table 0) ≡ Count n → Bytes inputs →
+pub never-unset : (table inputs : List ℕ) (n : ℕ) → tableGrammar mostProcesses (codeAt table 0) ≡ Count n →
+    Bytes inputs →
     {taking : ℕ → ℕ} {state : ℕ → Machine} → RunOf (numbersIn table) (numbersIn inputs) taking state →
     (j : ℕ) → 1 ≤ j → InputsSet (numbersIn table) (state j .state .variables)
 never-unset table inputs n accepted bytes r j h =

@@ -1,6 +1,7 @@
 -- What input variables have. Document 01, Actions: "Read: inputs taken"; "A variable starts unset. .. Inputs are never
 -- unset once read."
--- Assumes nothing: these are definitions. That it is so in every run is a theorem (proofs/Inputs.antt, proofs/Unset.antt).
+-- Assumes nothing: these are definitions. That it is so in every run is a theorem (proofs/Inputs.antt,
+-- proofs/Unset.antt).
 use Prim.Native.Nat.{ℕ, _-_, _<_}
 use mathlib.Core.Path.{_≡_}
 use mathlib.Core.List.{List}

@@ -1,8 +1,8 @@
 -- The moves of one scan. Document 01, Actions: "Each process passes its turn exactly once a scan, ascending, after at
 -- most 64 actions, skip and end counted"; paper 000's read leads from counter 0 to counter 1, and the write from n + 1
 -- to 0. Moves are told by the numbers of the states from which they start; `state` tells the states of a run.
--- Assumes nothing: these are definitions. That every scan of a run is such a one is a theorem (proofs/Turned.antt, and of
--- accepted tables proofs/EachScan.antt).
+-- Assumes nothing: these are definitions. That every scan of a run is such a one is a theorem (proofs/Turned.antt, and
+-- of accepted tables proofs/EachScan.antt).
 use Prim.Native.Nat.{ℕ, suc, _+_, _-_, _<_, _≤_}
 use mathlib.Core.Path.{_≡_}
 use mathlib.Core.List.{List}

@@ -1,4 +1,5 @@
--- The bytes of a trace. Document 01, Phases and the lasso: "In the trace each has 5 bytes: phase, then 32 atoms, atom 0 the lowest bit, low byte first".
+-- The bytes of a trace. Document 01, Phases and the lasso: "In the trace each has 5 bytes: phase, then 32 atoms, atom 0
+-- the lowest bit, low byte first".
 -- Assumes nothing: these are definitions.
 use Prim.Native.Nat.{ℕ, zero, suc, _+_, _*_, _/_, _%_}
 use mathlib.Core.Bool.{Bool, false}
@@ -14,8 +15,8 @@ use Rattle.bits.specs.Bits.{bitB, countB}
 abbrev pub positions : List ℕ → ℕ
 positions s = length s / 5
 
--- "Output (2) .. Input (0) .. Exe (1)": the phase of a byte, and the byte of a phase. A byte above 2 is no phase: the check refuses a trace that has one, and its
--- value here is then never used.
+-- "Output (2) .. Input (0) .. Exe (1)": the phase of a byte, and the byte of a phase. A byte above 2 is no phase: the
+-- check refuses a trace that has one, and its value here is then never used.
 abbrev pub phaseFrom : ℕ → Phase
 phaseFrom zero = Input
 phaseFrom (suc zero) = Exe
@@ -37,7 +38,8 @@ markB s m p = eqb (phaseByte s p) m
 unfoldable pub atomB : List ℕ → ℕ → ℕ → Bool
 atomB s a p = bitB (getD s (p * 5 + 1 + a / 8) 0) (a % 8)
 
--- The same of any number: there are 32 atoms, and no other holds anywhere. (Without the bound atom 40 would be read from the position behind.)
+-- The same of any number: there are 32 atoms, and no other holds anywhere. (Without the bound atom 40 would be read
+-- from the position behind.)
 unfoldable pub atomAt : List ℕ → ℕ → ℕ → Bool
 atomAt s a p = pick (ltb a 32) (atomB s a p) false
 

@@ -1,4 +1,5 @@
--- The line of a refusal tells its number and its place, and is no answer: so the program never prints a refusal by 9, 10 or 11.
+-- The line of a refusal tells its number and its place, and is no answer: so the program never prints a refusal by 9,
+-- 10 or 11.
 -- Assumes nothing.
 use Prim.Native.Nat.{ℕ, _^_, _≤_, _<_}
 use native.Mathlib.Omega.{arith}
@@ -35,7 +36,8 @@ module _ (n m : ℕ) (small : n < 10 ^ 20) (small′ : m < 10 ^ 20) (c : ℕ) (s
       (one-number n m small small′ same, rest)
 
 -- The line of a refusal has one number and one place.
-pub one-refusal : (n m p q : ℕ) → n < 10 ^ 20 → m < 10 ^ 20 → p < 10 ^ 20 → q < 10 ^ 20 → refusedLine n p ≡ refusedLine m q →
+pub one-refusal : (n m p q : ℕ) → n < 10 ^ 20 → m < 10 ^ 20 → p < 10 ^ 20 → q < 10 ^ 20 →
+    refusedLine n p ≡ refusedLine m q →
     (n ≡ m) × (p ≡ q)
 unfolding refusedLine atLine
 one-refusal n m p q ln lm lp lq e =
@@ -58,7 +60,8 @@ unfolding answerLines positionsLine
 answer-first n start holds found = refl
 
 -- 9, 10 and 11, and any number above.
-pub never-printed : (s text : List ℕ) → Reports s (framingOf s) text → (n p : ℕ) → 9 ≤ n → n < 10 ^ 20 → ¬ (text ≡ refusedLine n p)
+pub never-printed : (s text : List ℕ) → Reports s (framingOf s) text → (n p : ℕ) → 9 ≤ n → n < 10 ^ 20 →
+    ¬ (text ≡ refusedLine n p)
 never-printed s text r n p high small e = go (printed s text r)
   where
     go : Printed s text → ⊥

@@ -1,4 +1,5 @@
--- A node that is read stands at its place in its own numbers: the numbers from there on are the node's, and then those from the place after it on.
+-- A node that is read stands at its place in its own numbers: the numbers from there on are the node's, and then those
+-- from the place after it on.
 -- Assumes nothing.
 use Prim.Native.Nat.{ℕ}
 use mathlib.Core.Path.{_≡_, refl, sym}
@@ -29,7 +30,8 @@ Stands s at (NoNode cause place) = Unit {0}
 
 module _ (kind : Kind) (s : List ℕ) (at : ℕ) where
   -- an atom's number behind its tag
-  by-number : (next : ℕ) → values (codeAt s at) ≡ 0 ∷ values (codeAt s next) → (n : Number) → numberAt s next ≡ n → Stands s at (atomAt next n)
+  by-number : (next : ℕ) → values (codeAt s at) ≡ 0 ∷ values (codeAt s next) → (n : Number) → numberAt s next ≡ n →
+      Stands s at (atomAt next n)
   by-number next e (Fault cause place) q = tt
   by-number next e (Value k after) q = go (ltb 31 k)
     where
@@ -37,7 +39,8 @@ module _ (kind : Kind) (s : List ℕ) (at : ℕ) where
       go true = tt
       go false = rw (← next-values s next k after (sym q)) e
 
-  by-tag : (v next : ℕ) (t : Tag) → Numbers v t → values (codeAt s at) ≡ v ∷ values (codeAt s next) → Stands s at (nodeBy s at next t)
+  by-tag : (v next : ℕ) (t : Tag) → Numbers v t → values (codeAt s at) ≡ v ∷ values (codeAt s next) →
+      Stands s at (nodeBy s at next t)
   by-tag v next Unknown h e = tt
   by-tag v next Atom h e = by-number next (rw h at e) (numberAt s next) refl
   by-tag v next (Mark p) h e = rw h at e
@@ -52,5 +55,6 @@ module _ (kind : Kind) (s : List ℕ) (at : ℕ) where
   unfolding nodeAt
   stands = by-first (numberAt s at) refl
 
-  pub node-stands : (node : Node) (next : ℕ) → nodeAt kind s at ≡ Found node next → values (codeAt s at) ≡ nodeNumbers node ++ values (codeAt s next)
+  pub node-stands : (node : Node) (next : ℕ) → nodeAt kind s at ≡ Found node next →
+      values (codeAt s at) ≡ nodeNumbers node ++ values (codeAt s next)
   node-stands node next e = rw e at stands
