@@ -12,6 +12,7 @@ use Rattle.coding.specs.Refusal.{numberOf}
 use Rattle.coding.specs.declared.Number.{Number}
 use Rattle.coding.specs.declared.Number.the-variants.{Value, Fault}
 
+-- Where there is a fault, it is refusal 1: of what bytes begin with, of the number at a place, of a whole code.
 abbrev OneBegin : Begin → Type 0
 OneBegin (number v k) = Unit {0}
 OneBegin (none cause) = numberOf cause ≡ 1
@@ -60,6 +61,7 @@ from-one (suc fuel) p (b ∷ s) = go (first (b ∷ s)) (first-one (b ∷ s)) (λ
     go (number v k) o rest = rest k
     go (none cause) o rest = o
 
+-- So of any bytes, from any place on.
 pub code-one : (s : List ℕ) (p : ℕ) → OneCode (codeAt s p)
 unfolding codeAt
 code-one s p = from-one (length (drop p s)) p (drop p s)

@@ -24,6 +24,7 @@ use Rattle.report.specs.declared.framing.Framed.the-variants.{Blocks, Fa
 use Rattle.report.specs.MadeUp.{blockBytes, blocksBytes, MadeUp, Names}
 
 -- ---- a block that was put there is found, and is what is cut out
+-- How many bytes the length of a block takes.
 abbrev sizeOf : List ℕ → ℕ
 sizeOf b = length (bytesOf (length b))
 
@@ -117,6 +118,7 @@ module _ (s table inputs requirement : List ℕ) (m : MadeUp s table inputs requ
       )
 
 -- ---- and what is framed is made up of the blocks that are named
+-- A block that is found at a place is cut out of what stands there, with its length in front and the rest behind.
 abbrev Taking : List ℕ → ℕ → Block → Type 0
 Taking s at (Found a b) = drop at s ≡ blockBytes (between a b s) ++ drop b s
 Taking s at (Missing cause place) = Unit {0}
@@ -155,8 +157,7 @@ module _ (s : List ℕ) (bytes : (i : ℕ) → getD s i 0 < 256) where
       sized n k true f e = tt
       sized n k false f e = cut-whole at n k (ltb-false _ _ f) e
 
-      go : (x : Begin) → Begins (drop at s) x →
-          Taking s at (blockBy s at (placed at x))
+      go : (x : Begin) → Begins (drop at s) x → Taking s at (blockBy s at (placed at x))
       go (number n k) h = sized n k (ltb (length s - (at + k)) n) refl (h .1)
       go (none cause) h = tt
 

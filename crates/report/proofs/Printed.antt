@@ -46,8 +46,7 @@ module _ (s : List ℕ) where
   unfolding blockAt
   block-one at = go (numberAt s at) (number-one s at)
     where
-      go : (x : Number) → OneNumber x →
-          OneBlock (blockBy s at x)
+      go : (x : Number) → OneNumber x → OneBlock (blockBy s at x)
       go (Value n next) o = by-test OneBlock (ltb (length s - next) n) _ _ refl tt
       go (Fault cause place) o = o
 
@@ -106,6 +105,7 @@ module _ (s text : List ℕ) where
       (runOf traceRoom (between a b s) (between c d s)) refl
       (run-named traceRoom (between a b s) (between c d s) (omega arith)) r
 
+  -- The one statement: whatever is printed for an input is one of the two.
   pub printed : Reports s (framingOf s) text → Printed s text
   printed r = by-framed (framingOf s) refl (framing-one s) r
 

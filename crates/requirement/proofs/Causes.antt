@@ -23,6 +23,7 @@ pub data NotRequirement : ℕ → Type 0 where
   no-node : NotRequirement 3
   past-limit : NotRequirement 4
 
+-- What is refused is refused by one of these numbers; of what was read, the rest of the code can still be at fault.
 abbrev NamedGot : Got → Type 0
 NamedGot (got f left c) = OneCode c
 NamedGot (refused cause place) = NotRequirement (numberOf cause)
@@ -80,6 +81,7 @@ named-whole (got f left (item p v c)) o = no-number
 named-whole (got f left (broken cause p)) o = no-number
 named-whole (refused cause place) o = o
 
+-- Any bytes, read as a requirement of either kind.
 pub parsed-named : (kind : Kind) (s : List ℕ) → NamedParsed (parsed kind (codeAt s 0))
 unfolding parsed
 parsed-named kind s =

@@ -32,13 +32,14 @@ use Rattle.run.specs.declared.Reached.{Reached}
 use Rattle.run.specs.declared.Ran.{Ran}
 use Rattle.run.specs.declared.Ran.the-variants.{Closed, Halted, Refused}
 
--- The numbers that a running run is refused by.
+-- The numbers that a run is refused by once it runs.
 pub data NotRun : ℕ → Type 0 where
   no-rule : NotRun 5
   long-turn : NotRun 6
   long-run : NotRun 7
   not-closed : NotRun 8
 
+-- What is refused is refused by one of these numbers; a table or inputs that are not read, by one of theirs.
 abbrev NamedGoing : Going → Type 0
 NamedGoing On = Unit {0}
 NamedGoing (Stopped cause) = NotRun (numberOf cause)
@@ -148,6 +149,7 @@ by-table T inputs (Count n) h =
     by-inputs T (numbersIn inputs) (inputsGrammar (inputsOf T) (codeAt inputs 0)) (inputs-named (inputsOf T) inputs)
 by-table T inputs (NotRead cause place) h = h
 
+-- Any bytes as table and inputs, where the lent buffer is not too short.
 pub run-named : (room : ℕ) (table inputs : List ℕ) → traceRoom ≤ room → NamedRan (runOf room table inputs)
 unfolding runOf
 run-named room table inputs enough =

@@ -27,6 +27,7 @@ pub data NotTable : ℕ → Type 0 where
   no-number : NotTable 1
   not-allowed : NotTable 2
 
+-- What is refused is refused by one of these numbers.
 abbrev pub NamedAnswer : Answer → Type 0
 NamedAnswer (Count n) = Unit {0}
 NamedAnswer (Refused cause place) = NotTable (numberOf cause)
@@ -60,6 +61,7 @@ named-tests most counts (item p v c) want a h =
       | Behind ↦ h
     ]
 
+-- Any bytes, read as a table, and as an inputs record.
 pub table-named : (most : ℕ) (s : List ℕ) → NamedAnswer (tableGrammar most (codeAt s 0))
 unfolding tableGrammar
 table-named most s =
