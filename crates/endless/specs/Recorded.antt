@@ -9,8 +9,9 @@ use Rattle.run.specs.Running.{recordedMove}
 use Rattle.run.specs.declared.Going.the-variants.{On}
 use Rattle.run.specs.declared.Machine.{Machine}
 
--- State number i of the recorded run, were every move to go on. A move that is stopped leaves the state as it is, so
--- that from there on the state is the one at which the run was stopped.
+-- State number i of the moves one after another, without an end. A move that is stopped leaves the state as it is, so
+-- that from there on the state is the one at which the run was stopped. Behind scan q there is nothing recorded to read:
+-- of the states there nothing is said.
 unfoldable pub stateAt : List ℕ → List ℕ → ℕ → Machine
 stateAt T I zero = begun mostProcesses
 stateAt T I (suc i) = recordedMove T I (stateAt T I i) .machine

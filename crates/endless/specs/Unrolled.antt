@@ -13,12 +13,13 @@ use Rattle.scan.specs.Guards.{atomOf}
 use Rattle.run.specs.Moves.{begun, moveOf}
 use Rattle.run.specs.declared.Machine.{Machine}
 
--- Which recorded scan gives the inputs where so many scans are done, both from 0: the recorded ones in turn, and then
--- again those after scan b, for ever.
+-- Which recorded scan, counted from 0, is read when so many scans are done: the recorded ones in turn, and then again
+-- those after scan b, for ever.
 unfoldable pub recordedScan : ℕ → ℕ → ℕ → ℕ
 recordedScan q b done = pick (ltb done q) done (b + (done - b) % (q - b))
 
--- State n of the endless run.
+-- State n of the endless run. A move that is stopped would leave the state as it is; of a run that closes none is
+-- (`goes-on` in proofs/Closed.antt).
 unfoldable pub endlessState : List ℕ → List ℕ → ℕ → Machine
 endlessState T I zero = begun mostProcesses
 endlessState T I (suc n) =

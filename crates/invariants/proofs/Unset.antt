@@ -53,7 +53,7 @@ holding-set : {T I v : List ℕ} {d : ℕ} → ((i : ℕ) → getD I i 0 < none)
 unfolding readingOf
 holding-set {T} {I} {v} {d} small h k b = rw (h .values k b) (small _)
 
--- In every state after the first read, of the recorded-is-run run and of the endless run alike.
+-- In every state after the first read, of the recorded run and of the endless run alike.
 pub never-unset : (table inputs : List ℕ) (n : ℕ) → tableGrammar mostProcesses (codeAt table 0) ≡ Count n →
     Bytes inputs →
     {taking : ℕ → ℕ} {state : ℕ → Machine} → RunOf (numbersIn table) (numbersIn inputs) taking state →

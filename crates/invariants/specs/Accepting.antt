@@ -16,7 +16,7 @@ use Rattle.run.specs.declared.Ran.{Ran}
 use Rattle.run.specs.declared.Ran.the-variants.{Closed, Halted, Refused}
 
 -- The lent buffer is long enough, and the table and the inputs are accepted, as so many numbers.
-pub record Accepted (room : ℕ) (table inputs : List ℕ) : Type 0 where
+pub record ReadyToRun (room : ℕ) (table inputs : List ℕ) : Type 0 where
   pub buffer : traceRoom ≤ room
   pub table-numbers : ℕ
   pub table-read : tableGrammar mostProcesses (codeAt table 0) ≡ Count table-numbers

@@ -1,5 +1,5 @@
 -- What a process does next, told by the table as it is made up: skip, the end of the body, or an action that the table
--- has for it. No look-up answers what it answers where there is nothing.
+-- has for it. So no look-up asks for a place that the table does not have.
 -- Assumes nothing: these are definitions. That a step of the run is always such a one is a theorem
 -- (proofs/Reached.antt).
 use Prim.Native.Nat.{ℕ, _-_, _≤_}

@@ -1,4 +1,4 @@
--- Small runs, one for each refusal but 7, which asks for a long one.
+-- Small runs, one for each of the refusals 5, 6 and 8. (7 asks for a long one: the stored cases have it.)
 -- Assumes nothing: these are definitions.
 use Prim.Native.Nat.{ℕ}
 use mathlib.Core.List.{List, [], _∷_}

@@ -14,12 +14,13 @@ use Rattle.controller.specs.State.{none, valueAt}
 pub record Holding (T I : List ℕ) (done : ℕ) (v : List ℕ) : Type 0 where
   pub values : (k : ℕ) → k < inputsOf T → valueAt v k ≡ readingOf I (inputsOf T) done k
 
--- How many scans were done at the last read: as many as now, but just after a write one fewer.
+-- How many scans were done at the last read: as many as now, but just after a write one fewer. (At the start, before any
+-- read, this has no meaning.)
 abbrev pub lastRead : Phase → ℕ → ℕ
 lastRead Output scans = scans - 1
 lastRead Input scans = scans
 lastRead Exe scans = scans
 
--- Every input variable has a value: a number of the coding, and not ⊥, which is above all of them.
+-- Every input variable has a value: a number of the coding, and not `none`, unset, which is above all of them.
 abbrev pub InputsSet : List ℕ → List ℕ → Type 0
 InputsSet T v = (k : ℕ) → k < inputsOf T → valueAt v k < none

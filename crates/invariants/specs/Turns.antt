@@ -40,7 +40,8 @@ pub data Turns (T : List ℕ) (state : ℕ → Machine) : ℕ → ℕ → ℕ �
   turn : {p from next to : ℕ} → p ≤ processesOf T → Turn T state p from next → Turns T state (p + 1) next to →
       Turns T state p from to
 
--- The move from state k is a read, and a write.
+-- What a read does to phase and counter, and what a write does; that the move at such a counter is `readOf` or `writeOf`
+-- is what `moveOf` says.
 pub record Reads (state : ℕ → Machine) (k : ℕ) : Type 0 where
   pub phase : state k .phase ≡ Output
   pub counter : turnAt state k ≡ 0

@@ -11,7 +11,7 @@ use Rattle.report.specs.Framing.{framingOf}
 use Rattle.report.specs.Printing.{Prints}
 use Rattle.report.specs.Reporting.{Reports}
 use Rattle.report.proofs.Front.{front-reports}
-use Rattle.program.specs.Program.{ReportOn, Checks}
+use Rattle.program.specs.Program.{ReportOn, ChecksInput}
 use Rattle.program.specs.declared.Checked.{Checked}
 
 pub front-prints : (read : ℕ) (s : List ℕ) (r : ℕ) (d e : List ℕ) →
@@ -32,7 +32,7 @@ text-there P r d e size p =
 -- Where the bytes read are the first of an input, at most 60,001, what is printed is the report on that whole input,
 -- however long it is.
 pub whole-input : (s : List ℕ) (r : Checked) (input before after : List ℕ) →
-    take (r .read) input ≡ take 60001 s → Checks r input before after → Prints (ReportOn s) (r .length) before after
+    take (r .read) input ≡ take 60001 s → ChecksInput r input before after → Prints (ReportOn s) (r .length) before after
 unfolding ReportOn
 whole-input s r input before after e c =
     let p = c .prints in

@@ -2,8 +2,8 @@
 -- blocks .. it prints exactly" the lines of its report. What a call of the operating system read or wrote no promise
 -- can say. So two things are left to believe: that `io::read_full` puts the first bytes of standard input at the front
 -- of the buffer it is lent, all of them if they fit (a read that fails counts as the end of the input); and that
--- `io::write_all` writes the bytes it is lent, in order. All between the two is proved, also that the bytes lent to
--- `io::write_all` are the text: `write_text`, which makes that one call, asks it of its caller.
+-- `io::write_all` writes the bytes it is lent, in order. All between the two is proved, also that
+-- `write_text`, which makes that one call of `io::write_all`, is called with the text alone: it asks it of its caller.
 -- Assumes nothing: these are definitions.
 use Prim.Native.Nat.{ℕ, _≤_}
 use mathlib.Core.List.{List}
@@ -22,9 +22,9 @@ mostRead = 60001
 unfoldable pub ReportOn : List ℕ → List ℕ → Type 0
 ReportOn s text = Reports s (framingOf s) text
 
--- What is promised of a run: `input` is the buffer as it was left, of which the first `read` bytes were read; `before`
+-- What is promised of one call of `check_input`: `input` is the buffer as it was left, of which the first `read` bytes were read; `before`
 -- and `after` are the other buffer, at whose front the text stands, the rest unchanged. The text has `length` bytes, at
--- most 100,000 (`Prints`), so all of it is there.
-pub record Checks (r : Checked) (input before after : List ℕ) : Type 0 where
+-- most 100,000 (`Prints`); the buffer, an array of 100,000, has room for all of it.
+pub record ChecksInput (r : Checked) (input before after : List ℕ) : Type 0 where
   pub most : r .read ≤ mostRead
   pub prints : Prints (ReportOn (take (r .read) input)) (r .length) before after

@@ -3,13 +3,13 @@
 ghost use Prim.Native.Nat.{_≤_};
 ghost use lib.ListN.{length, take};
 ghost use Rattle.report.specs.Printing.{Prints};
-ghost use Rattle.program.specs.Program.{ReportOn, Checks};
+ghost use Rattle.program.specs.Program.{ReportOn, ChecksInput};
 
 // One byte more than an input may have, so that a longer one is seen to be too long.
-pub const INPUT: usize = 60001;
+pub const INPUT_ROOM: usize = 60001;
 
 // No text is longer.
-pub const OUTPUT: usize = 100000;
+pub const OUTPUT_ROOM: usize = 100000;
 
 const STANDARD_INPUT: i32 = 0;
 
@@ -22,7 +22,7 @@ pub struct Checked {
     pub written: bool,
 }
 
-// Puts the report on the first bytes of a buffer into another.
+// Reports on the first `read` bytes of `input`, into `output`.
 fn report_front(input: &[u8], read: usize, output: &mut [u8]) -> usize
     requires { ⌜ read ≤ length (now input) ⌝ }
     ensures { λ r. ⌜ Prints (ReportOn (take read (now (input .entry)))) r (now (output .entry)) (now (output .exit)) ⌝ }
@@ -30,9 +30,9 @@ fn report_front(input: &[u8], read: usize, output: &mut [u8]) -> usize
     report::report(&input[0..read], output)
 }
 
-// Writes the first bytes of a buffer to standard output. No promise can say what is written; but what this function
-// relies on, and the prover checks where it is called, is that these bytes are the text for the input: so nothing else
-// is handed to the operating system.
+// Writes the first bytes of a buffer to standard output: the one line that hands anything to the operating system. No
+// promise can say what is written; but what this function relies on, and the prover checks where it is called, is that
+// these bytes are the text for the input.
 fn write_text(input: &[u8], read: usize, output: &[u8], count: usize) -> bool
     requires { ⌜ (count ≤ length (now output)) × ReportOn (take read (now input)) (take count (now output)) ⌝ }
 {
@@ -42,8 +42,8 @@ fn write_text(input: &[u8], read: usize, output: &[u8], count: usize) -> bool
 // Reads standard input, reports on what was read, and writes the report's text to standard output. What is left in the
 // output buffer is promised, of the bytes that stand at the front of the input buffer; that these are the input's, and
 // that those written arrive, is the operating system's part, of which no promise can speak.
-pub fn check_input(input: &mut [u8; INPUT], output: &mut [u8; OUTPUT]) -> Checked
-    ensures { λ r. ⌜ Checks r (now (input .exit)) (now (output .entry)) (now (output .exit)) ⌝ }
+pub fn check_input(input: &mut [u8; INPUT_ROOM], output: &mut [u8; OUTPUT_ROOM]) -> Checked
+    ensures { λ r. ⌜ ChecksInput r (now (input .exit)) (now (output .entry)) (now (output .exit)) ⌝ }
 {
     let read = io::read_full(STANDARD_INPUT, input);
     let length = report_front(input, read, output);

@@ -10,7 +10,8 @@ use Rattle.coding.specs.Room.{over}
 abbrev pub longestText : ℕ
 longestText = 100000
 
--- r bytes of a text of which P is true stand at the front of the buffer, as far as there is room; the rest of it is unchanged.
+-- A text of which P is true, r bytes long, stands at the front of the buffer, cut off where the buffer ends; the rest of
+-- the buffer is unchanged.
 pub record Prints (P : List ℕ → Type 0) (r : ℕ) (before after : List ℕ) : Type 0 where
   pub text : List ℕ
   pub true-of : P text

@@ -2,7 +2,7 @@
 // bound 1) and then resets the timer that has just been cleared, for which there is no rule: refusal 5 in scan 2. The
 // requirement, an unknown tag, is not read any more.
 fn main() {
-    let mut input = [0u8; program::INPUT];
-    let mut output = [0u8; program::OUTPUT];
+    let mut input = [0u8; program::INPUT_ROOM];
+    let mut output = [0u8; program::OUTPUT_ROOM];
     program::check_input(&mut input, &mut output);
 }
