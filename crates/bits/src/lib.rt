@@ -1,1 +1,2 @@
 // Bits of bytes and of rows of bytes: definitions and laws. No code.
+#![tactic(auto)]

@@ -1,4 +1,6 @@
 // The coding: one number, rows of numbers with their places, and what a reader or a writer refuses.
+#![tactic(auto)]
+
 ghost use Rattle.std.specs.Prelude.{◌≡◌, ◌+◌, ◌≤◌, length};
 ghost use Rattle.coding.specs.Refusal.{number_of};
 ghost use Rattle.coding.specs.Number.{number_at, bytes_of};
@@ -6,7 +8,7 @@ ghost use Rattle.coding.specs.Code.{code_at, values, bytes_of_all, source_number
 ghost use Rattle.coding.specs.Room.{over, settled, resized, stored, wrote_number};
 
 // Why something is refused: a case for each row of the table of refusals, and four for its first row.
-#[derive(Drop)]
+#[derive(Clone, Copy)]
 pub enum Cause {
     CutShort,
     NotShortest,
@@ -25,14 +27,14 @@ pub enum Cause {
 }
 
 // What reading a number finds: its value and the place after it, or why there is none and where.
-#[derive(Drop)]
+#[derive(Clone, Copy)]
 pub enum Number {
     Value(u16, usize),
     Fault(Cause, usize),
 }
 
 // What a reader, a writer or a check of a whole code answers: how many numbers or bytes, or a refusal and its place.
-#[derive(Drop)]
+#[derive(Clone, Copy)]
 pub enum Answer {
     Count(usize),
     Refused(Cause, usize),
@@ -40,7 +42,7 @@ pub enum Answer {
 
 // An answer in the paper's numbers, for callers outside: the number of the refusal and its place, or 0 and what was found.
 #[repr(C)]
-#[derive(Drop)]
+#[derive(Clone, Copy)]
 pub struct Told {
     pub refusal: u64,
     pub first: u64,

@@ -1,4 +1,6 @@
 // The controller of a hyperprocess: the state goes in by value, one action is done, and the state comes out.
+#![tactic(auto)]
+
 mod rules;
 mod same;
 pub mod tests;
@@ -20,7 +22,7 @@ const VARIABLES: usize = 32;
 const PROCESSES: usize = 8;
 
 // A process: its functional state (0 stop, 1 upward active, 255 err), its action counter (0 past the end of the body) and its timer.
-#[derive(Drop)]
+#[derive(Clone, Copy)]
 pub struct Process {
     pub state: u16,
     pub action: u16,
@@ -28,7 +30,7 @@ pub struct Process {
 }
 
 // The state: each variable's value, each process's record and the process counter.
-#[derive(Drop)]
+#[derive(Clone, Copy)]
 pub struct Controller {
     pub variables: [u32; VARIABLES],
     pub processes: [Process; PROCESSES],
@@ -36,7 +38,7 @@ pub struct Controller {
 }
 
 // An update of a variable: by a number, by another variable, or by its own value plus a number.
-#[derive(Drop)]
+#[derive(Clone, Copy)]
 pub enum Update {
     Constant(u16),
     Copy(u16),
@@ -44,7 +46,7 @@ pub enum Update {
 }
 
 // An action: the two implied ones, then ops 1 to 12.
-#[derive(Drop)]
+#[derive(Clone, Copy)]
 pub enum Action {
     Skip,
     End,
@@ -61,7 +63,7 @@ pub enum Action {
 }
 
 // What an action comes to for the turn: the process keeps it, passes it on, or has no rule for the action.
-#[derive(Drop)]
+#[derive(Clone, Copy)]
 pub enum Outcome {
     Stays,
     Passes,
@@ -69,7 +71,7 @@ pub enum Outcome {
 }
 
 // What a rule makes of the variables, the acting process's record and the record of the other process that the action names.
-#[derive(Drop)]
+#[derive(Clone, Copy)]
 pub struct Done {
     pub outcome: Outcome,
     pub variables: [u32; VARIABLES],
@@ -78,7 +80,7 @@ pub struct Done {
 }
 
 // What one action makes of the whole state.
-#[derive(Drop)]
+#[derive(Clone, Copy)]
 pub struct Acted {
     pub outcome: Outcome,
     pub state: Controller,

@@ -1,4 +1,6 @@
 // The C interface: a function for each public entry, its answer in the paper's numbers (include/scancheck.h).
+#![tactic(auto)]
+
 ghost use Rattle.std.specs.Prelude.{◌≡◌, length};
 ghost use Rattle.coding.specs.Number.{number_at, bytes_of};
 ghost use Rattle.coding.specs.Code.{code_at};

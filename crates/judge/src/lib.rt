@@ -1,4 +1,6 @@
 // Judging a requirement on a lasso trace: the verdict at moment 0, and how many findings there are and where.
+#![tactic(auto)]
+
 mod findings;
 mod operators;
 mod rows;
@@ -17,14 +19,14 @@ use requirement::{Checked, Kind};
 const MARKS: usize = 1536;
 
 // What judging answers: whether the requirement holds at moment 0 and how many findings there are, or a refusal.
-#[derive(Drop)]
+#[derive(Clone, Copy)]
 pub enum Judged {
     Verdict(bool, usize),
     Refused(Cause, usize),
 }
 
 // The verdict, and how many findings there are.
-#[derive(Drop)]
+#[derive(Clone, Copy)]
 struct Tally {
     pub holds: bool,
     pub count: usize,

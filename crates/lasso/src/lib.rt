@@ -1,4 +1,6 @@
 // The bytes of a lasso trace: well-formed or refused, and what stands at a position.
+#![tactic(auto)]
+
 ghost use Rattle.std.specs.Prelude.{◌≡◌, ◌<◌, ◌-◌};
 ghost use Rattle.bits.specs.Rows.{after_of};
 ghost use Rattle.bits.specs.Bits.{bit_b};

@@ -1,12 +1,14 @@
 // Looking things up in the numbers of a table and of an inputs record, by their place in the coding's order. An answer is what stands at that place, and 0 past
 // the last number: of an output, test, process, state, action or scan that there is not it says nothing.
+#![tactic(auto)]
+
 mod places;
 
 ghost use Rattle.std.specs.Prelude.{◌≡◌};
 ghost use Rattle.lookups.specs.Places.{inputs_of, internals_of, outputs_of, source_of, tests_of, test_of, processes_of, states_of, actions_of, action_of, state_place, action_from, scans_of, return_of, reading_of};
 
 // A test as its three numbers.
-#[derive(Drop)]
+#[derive(Clone, Copy)]
 pub struct TestRow {
     pub kind: u16,
     pub a: u16,
@@ -14,7 +16,7 @@ pub struct TestRow {
 }
 
 // An action as its six numbers.
-#[derive(Drop)]
+#[derive(Clone, Copy)]
 pub struct ActionRow {
     pub op: u16,
     pub x: u16,

@@ -1,5 +1,7 @@
 // scancheck as one function: standard input in, the report on it out to standard output. A program over it only makes
 // the two buffers.
+#![tactic(auto)]
+
 ghost use Rattle.std.specs.Prelude.{◌≤◌, length, take};
 ghost use Rattle.report.specs.Printing.{Prints};
 ghost use Rattle.program.specs.Program.{ReportOn, ChecksInput};
@@ -15,7 +17,7 @@ const STANDARD_INPUT: i32 = 0;
 const STANDARD_OUTPUT: i32 = 1;
 
 // How many bytes were read, how many the text has, and whether all of it was written.
-#[derive(Drop)]
+#[derive(Clone, Copy)]
 pub struct Checked {
     pub read: usize,
     pub length: usize,

@@ -1,4 +1,6 @@
 // What numbers a table and an inputs record may hold: a machine that takes one number at a time.
+#![tactic(auto)]
+
 pub mod allowed;
 
 ghost use Rattle.std.specs.Prelude.{◌≡◌};
@@ -21,7 +23,7 @@ pub const LONGEST_BOUND: u16 = 4095;
 pub const ERR_STATE: u16 = 255;
 
 // The sizes of a table that are known so far.
-#[derive(Drop)]
+#[derive(Clone, Copy)]
 pub struct Shape {
     pub inputs: u16,
     pub internals: u16,
@@ -31,7 +33,7 @@ pub struct Shape {
 }
 
 // Where the walk through the processes stands, each counted from 1: the process, of so many states the state, of so many actions the action.
-#[derive(Drop)]
+#[derive(Clone, Copy)]
 pub struct Spot {
     pub process: u16,
     pub states: u16,
@@ -41,7 +43,7 @@ pub struct Spot {
 }
 
 // What number is wanted next, with all that decides whether it is allowed.
-#[derive(Drop)]
+#[derive(Clone, Copy)]
 pub enum Want {
     // A table: the three counts of variables
     Inputs,
@@ -72,7 +74,7 @@ pub enum Want {
 }
 
 // What a number leads to: another is wanted, it was the last, or it may not stand there.
-#[derive(Drop)]
+#[derive(Clone, Copy)]
 pub enum Step {
     More(Want),
     Last,

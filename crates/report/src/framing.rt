@@ -8,14 +8,14 @@ use coding::{Cause, Number};
 const LONGEST_INPUT: usize = 60000;
 
 // A block: where it begins and ends, or what is wrong.
-#[derive(Drop)]
+#[derive(Clone, Copy)]
 pub enum Block {
     Found(usize, usize),
     Missing(Cause, usize),
 }
 
 // Where the table, the inputs and the requirement begin and end, or what is wrong.
-#[derive(Drop)]
+#[derive(Clone, Copy)]
 pub enum Framed {
     Blocks(usize, usize, usize, usize, usize, usize),
     Faulty(Cause, usize),

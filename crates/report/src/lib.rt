@@ -1,4 +1,6 @@
 // The program scancheck as one function: input bytes in, the printed text out.
+#![tactic(auto)]
+
 mod framing;
 mod lines;
 

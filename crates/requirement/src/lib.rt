@@ -1,4 +1,6 @@
 // Requirements: the nodes they are made of, and the reader and the writer of their code.
+#![tactic(auto)]
+
 mod tree;
 
 ghost use Rattle.std.specs.Prelude.{◌≡◌};
@@ -13,7 +15,7 @@ use coding::{Answer, Cause, Number};
 pub const HIGHEST_ATOM: u16 = 31;
 
 // The phases of a scan, which are the marks too.
-#[derive(Drop)]
+#[derive(Clone, Copy)]
 pub enum Phase {
     Input,
     Exe,
@@ -21,14 +23,14 @@ pub enum Phase {
 }
 
 // The two ends of a scan, by which the i and the o operators count: the states just after a read, and those just after a write.
-#[derive(Drop)]
+#[derive(Clone, Copy)]
 pub enum End {
     Reads,
     Writes,
 }
 
 // The family of a temporal operator: plain; e, which looks within a scan; i and o, which look at each end of one kind.
-#[derive(Drop)]
+#[derive(Clone, Copy)]
 pub enum Family {
     Plain,
     Within,
@@ -36,7 +38,7 @@ pub enum Family {
 }
 
 // The operators over one node: not, X, F, G.
-#[derive(Drop)]
+#[derive(Clone, Copy)]
 pub enum One {
     Not,
     Next(Family),
@@ -45,14 +47,14 @@ pub enum One {
 }
 
 // The operators over two nodes: and, U.
-#[derive(Drop)]
+#[derive(Clone, Copy)]
 pub enum Two {
     And,
     Until(Family),
 }
 
 // A node: an atom and its number, a mark, or an operator over the nodes that follow.
-#[derive(Drop)]
+#[derive(Clone, Copy)]
 pub enum Node {
     Atom(u16),
     Mark(Phase),
@@ -61,7 +63,7 @@ pub enum Node {
 }
 
 // What a tag asks for.
-#[derive(Drop)]
+#[derive(Clone, Copy)]
 pub enum Tag {
     Atom,
     Mark(Phase),
@@ -71,21 +73,21 @@ pub enum Tag {
 }
 
 // Which of the two is read.
-#[derive(Drop)]
+#[derive(Clone, Copy)]
 pub enum Kind {
     Untranslated,
     Translated,
 }
 
 // What reading a node finds: the node and the place after it, or a refusal.
-#[derive(Drop)]
+#[derive(Clone, Copy)]
 pub enum NodeRead {
     Found(Node, usize),
     Fault(Cause, usize),
 }
 
 // What checking a requirement finds: its nodes and its depth, or a refusal.
-#[derive(Drop)]
+#[derive(Clone, Copy)]
 pub enum Checked {
     Whole(u16, u16),
     Refused(Cause, usize),

@@ -8,7 +8,7 @@ use crate::{Checked, Kind, Tag};
 use coding::{Cause, Number};
 
 // What reading a node and its operands finds: the place after them, how many nodes may still come, and how much of the depth was not used; or a refusal.
-#[derive(Drop)]
+#[derive(Clone, Copy)]
 pub enum Part {
     Read(usize, u16, u16),
     Refused(Cause, usize),

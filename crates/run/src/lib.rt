@@ -1,4 +1,6 @@
 // The run of a table over recorded inputs by the published rules, and its closing to a lasso trace.
+#![tactic(auto)]
+
 mod atoms;
 mod moves;
 mod places;
@@ -24,14 +26,14 @@ const TABLE_NUMBERS: usize = 6348;
 const INPUTS_NUMBERS: usize = 43682;
 
 // Whether a run goes on, or what stops it.
-#[derive(Drop)]
+#[derive(Clone, Copy)]
 pub enum Going {
     On,
     Stopped(Cause),
 }
 
 // A state of the run: its phase, the controller's state, the actions done so far in the turn, and the scans done.
-#[derive(Drop)]
+#[derive(Clone, Copy)]
 pub struct Machine {
     pub phase: Phase,
     pub state: Controller,
@@ -40,14 +42,14 @@ pub struct Machine {
 }
 
 // What one move comes to: the machine after it, or what stops the run and the machine before it.
-#[derive(Drop)]
+#[derive(Clone, Copy)]
 pub struct Moved {
     pub going: Going,
     pub machine: Machine,
 }
 
 // Where a run has come: the state of this number, wanted or the last before a stop.
-#[derive(Drop)]
+#[derive(Clone, Copy)]
 pub struct Reached {
     pub going: Going,
     pub number: usize,
@@ -55,7 +57,7 @@ pub struct Reached {
 }
 
 // What a run answers: position count and loop start; or the cause, scan and process of a stop (0 where no process is to be named); or a refusal of what was given.
-#[derive(Drop)]
+#[derive(Clone, Copy)]
 pub enum Ran {
     Closed(usize, usize),
     Halted(Cause, u16, u16),

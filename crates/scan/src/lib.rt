@@ -1,4 +1,6 @@
 // What a scan does beside its actions: guards on a state, the read, the write; and a position put into the trace.
+#![tactic(auto)]
+
 ghost use Rattle.std.specs.Prelude.{◌≡◌, ◌-◌, ◌∷◌, set};
 ghost use Rattle.coding.specs.Room.{over};
 ghost use Rattle.controller.specs.State.{value_at, state_at};

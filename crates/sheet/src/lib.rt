@@ -1,4 +1,6 @@
 // Sheets: named bodies one after another. A lookup answers where a body stands, or with the very bytes of the sheet.
+#![tactic(auto)]
+
 ghost use Rattle.std.specs.Prelude.{◌≡◌, ◌+◌, ◌≤◌, length};
 ghost use Rattle.sheet.specs.Sheet.{text_at, name_at, entry_at, check_from, seek_from, find_in, body_of, start_of, eqbs, part};
 
@@ -9,21 +11,21 @@ const MOST_ENTRIES: u16 = 32;
 const LONGEST_NAME: u16 = 16;
 
 // A text of the sheet: where it begins and ends, or why there is none and where.
-#[derive(Drop)]
+#[derive(Clone, Copy)]
 enum Text {
     Part(usize, usize),
     Fault(Cause, usize),
 }
 
 // An entry of the sheet: where its name begins and ends, where its body begins and ends, or a refusal.
-#[derive(Drop)]
+#[derive(Clone, Copy)]
 enum Entry {
     Named(usize, usize, usize, usize),
     Bad(Cause, usize),
 }
 
 // What a lookup finds: where the body begins and ends, or a refusal.
-#[derive(Drop)]
+#[derive(Clone, Copy)]
 pub enum Found {
     Body(usize, usize),
     Refused(Cause, usize),

@@ -1,4 +1,6 @@
 // The reader and the writer of tables and of inputs records, from bytes or from numbers: what may stand where is said by `ranges`, number by number.
+#![tactic(auto)]
+
 mod skips;
 mod tests;
 
@@ -15,7 +17,7 @@ use ranges::{Step, Want};
 const COUNTS: usize = 65;
 
 // What a number that is wanted is to the second look at the tests.
-#[derive(Drop)]
+#[derive(Clone, Copy)]
 enum Role {
     // how many processes there are
     ProcessCount,
@@ -28,7 +30,7 @@ enum Role {
 }
 
 // What the first look at a source finds: how many numbers or the first fault, and beside it the counts of processes and states.
-#[derive(Drop)]
+#[derive(Clone, Copy)]
 struct Seen {
     answer: Answer,
     counts: [u16; COUNTS],

@@ -7,7 +7,7 @@ use coding::Number;
 use ranges::{Shape, Spot, Want, allowed};
 
 // Where the look stands: what is wanted, at which place, after how many numbers.
-#[derive(Drop)]
+#[derive(Clone, Copy)]
 pub struct Stand {
     pub want: Want,
     pub at: usize,

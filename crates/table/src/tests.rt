@@ -8,7 +8,7 @@ use coding::{Answer, Cause, Number};
 use ranges::{Step, Want};
 
 // What the second look says of a number: fine, wrong, or that all the tests are behind.
-#[derive(Drop)]
+#[derive(Clone, Copy)]
 pub enum Ruling {
     Fine,
     Wrong,

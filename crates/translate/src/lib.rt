@@ -1,4 +1,6 @@
 // The translation of a requirement to plain operators and marks, written as its code.
+#![tactic(auto)]
+
 mod forms;
 mod tree;
 

@@ -7,7 +7,7 @@ use crate::forms;
 use requirement::{Kind, Node, NodeRead, One, Two};
 
 // Where the recursion stands: the place after the code that was read, and the place after what was written.
-#[derive(Drop)]
+#[derive(Clone, Copy)]
 pub struct Spot {
     pub at: usize,
     pub place: usize,

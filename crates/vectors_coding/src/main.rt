@@ -2,6 +2,8 @@
 //
 // A record is a command, three numbers of two bytes each, low byte first, and data. The numbers: what goes along with the command, how much
 // room is lent, how many bytes of data follow. A writer's data are 16-bit numbers, low byte first; a lookup's are the name and then the sheet.
+#![tactic(auto)]
+
 mod text;
 
 ghost use Rattle.std.specs.Prelude.{◌≤◌};
@@ -12,7 +14,7 @@ use sheet::Found;
 use text::ROOM;
 
 // A code that is read or written; an inputs record takes the input count along.
-#[derive(Drop)]
+#[derive(Clone, Copy)]
 enum Code {
     Requirement(Kind),
     Table,

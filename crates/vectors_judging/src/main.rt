@@ -2,6 +2,8 @@
 //
 // A record is a command, five numbers of two bytes each, low byte first, and data. The numbers: the loop start, how much work and how much
 // list are lent, how many bytes the code has and how many the trace. The data: the code, then the trace.
+#![tactic(auto)]
+
 mod text;
 
 ghost use Rattle.std.specs.Prelude.{◌≤◌};

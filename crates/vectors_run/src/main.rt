@@ -2,6 +2,8 @@
 //
 // A record is a command, three numbers of two bytes each, low byte first, and data. The numbers: how much of the trace buffer is lent, how
 // many bytes the table has and how many the inputs. The data: the table, then the inputs.
+#![tactic(auto)]
+
 mod text;
 
 ghost use Rattle.std.specs.Prelude.{◌≤◌};

@@ -1,0 +1,11 @@
+use borrow.Author.Tests.{eq-eqb, ne_eqb}
+use Rattle.ranges.specs.Order.{at_tests}
+use Rattle.ranges.proofs.at_tests.Goals as goal
+
+pub returns-then-shape-eq0 : goal.returns-then-shape-eq0
+unfolding at_tests
+returns-then-shape-eq0 c = rw (eq-eqb _ _ c.if-shape-eq0.true)
+
+pub returns : goal.returns
+unfolding at_tests
+returns c = rw (ne_eqb _ _ c.if-shape-eq0.false)

@@ -1,0 +1,27 @@
+use mathlib.Core.Path.{refl, sym, ◌∙◌}
+use Rattle.sheet.proofs.Laws.{body_found, start_found, body_none, start_none}
+use Rattle.sheet.proofs.Names.{found_inside}
+use Rattle.std.proofs.Common.{rules}
+use Rattle.sheet.proofs.body.Goals as goal
+
+pub slice_bounds-result-count : goal.slice_bounds-result-count
+slice_bounds-result-count c =
+    (found_inside _ _ _ _ (sym c.find.ensures ∙ c.in-Body.is)).0
+
+pub slice_bounds-result-start : goal.slice_bounds-result-start
+slice_bounds-result-start c =
+    (found_inside _ _ _ _ (sym c.find.ensures ∙ c.in-Body.is)).0
+
+pub slice_bounds-result-end : goal.slice_bounds-result-end
+slice_bounds-result-end c =
+    (found_inside _ _ _ _ (sym c.find.ensures ∙ c.in-Body.is)).1
+
+pub returns-in-Body : goal.returns-in-Body
+returns-in-Body c =
+    let q = sym c.in-Body.is ∙ c.find.ensures in
+    (body_found _ _ _ q _, (refl, rw (← start_found _ _ _ q) (search rules)))
+
+pub returns-in-Refused : goal.returns-in-Refused
+returns-in-Refused c =
+    let q = sym c.in-Refused.is ∙ c.find.ensures in
+    (body_none _ _ _ q _, (refl, rw (← start_none _ _ _ q) (search rules)))
