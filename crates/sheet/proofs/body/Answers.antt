@@ -19,9 +19,9 @@ slice_bounds-result-end c =
 pub returns-in-Body : goal.returns-in-Body
 returns-in-Body c =
     let q = sym c.in-Body.is ∙ c.find.ensures in
-    (body_found _ _ _ q _, (refl, rw (← start_found _ _ _ q) (search rules)))
+    record { bytes = body_found _ _ _ q _; place = (refl, rw (← start_found _ _ _ q) (search rules)) }
 
 pub returns-in-Refused : goal.returns-in-Refused
 returns-in-Refused c =
     let q = sym c.in-Refused.is ∙ c.find.ensures in
-    (body_none _ _ _ q _, (refl, rw (← start_none _ _ _ q) (search rules)))
+    record { bytes = body_none _ _ _ q _; place = (refl, rw (← start_none _ _ _ q) (search rules)) }

@@ -9,7 +9,7 @@ returns c =
       c.with_rest-state.ensures,
       c.with_process-2.ensures,
       c.with_process.ensures,
-      c.next_counter.ensures,
+      c.counter_after-new_counter.ensures,
       c.rule_of-done.ensures,
       c.process-other.ensures,
       c.process-own.ensures,

@@ -1,6 +1,5 @@
 use Prim.Native.Nat.{◌-◌}
 use mathlib.Core.Path.{◌≡◌, refl}
-use mathlib.Core.Logic.{⊎_elim}
 use native.Mathlib.Omega.{arith}
 use borrow.Author.Tests.{eq-eqb, ne_eqb}
 use lib.ListN.{length}
@@ -9,6 +8,7 @@ use Rattle.controller.proofs.Arrays.{mapped}
 use Rattle.controller.proofs.Alike.{seen_test, seen, no_states, a_state}
 use Rattle.std.proofs.Common.{rules}
 use Rattle.controller.proofs.same.states.Goals as goal
+use Rattle.controller.proofs.same.states.Goals.{then-f-g, else-f-g}
 
 pub loop-at-init : goal.loop-at-init
 loop-at-init c = (refl, omega arith)
@@ -18,13 +18,14 @@ loop-at-preserved c =
     let n : length c.args.v ≡ 8 = search (rules, mapped) in
     let m : length c.args.w ≡ 8 = search (rules, mapped) in
     let i = c.loop-at.invariant.0 in (
-      ⊎_elim
-          (λ w. rw w.1
+      elim c.if-f-g.branch [
+          then-f-g w ↦ rw w.same-is
           (no_more_alike seen_test seen no_states a_state c.args.v c.args.w _ c.loop-at.at (omega arith)
-          (omega arith) c.loop-at.same (ne_eqb _ _ w.0.taken) i))
-          (λ w. rw w.1
+          (omega arith) c.loop-at.same (ne_eqb _ _ w.if-f-g.true) i)
+        | else-f-g w ↦ rw w.same-is
           (still_alike seen_test seen no_states a_state c.args.v c.args.w _ c.loop-at.at (omega arith)
-          (omega arith) c.loop-at.same (eq-eqb _ _ w.0.left) i)) c.if-f-g.branch,
+          (omega arith) c.loop-at.same (eq-eqb _ _ w.if-f-g.false) i)
+      ],
       omega arith,
     )
 

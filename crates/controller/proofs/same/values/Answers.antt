@@ -1,6 +1,5 @@
 use Prim.Native.Nat.{◌-◌}
 use mathlib.Core.Path.{◌≡◌, refl}
-use mathlib.Core.Logic.{⊎_elim}
 use native.Mathlib.Omega.{arith}
 use borrow.Author.Tests.{eq-eqb, ne_eqb}
 use lib.Dec.{eqb}
@@ -10,6 +9,7 @@ use Rattle.controller.proofs.Lists.{still_alike, no_more_alike, all_looked_at}
 use Rattle.controller.proofs.Alike.{no_values, a_value}
 use Rattle.std.proofs.Common.{rules}
 use Rattle.controller.proofs.same.values.Goals as goal
+use Rattle.controller.proofs.same.values.Goals.{then-v-at, else-v-at}
 
 pub loop-at-init : goal.loop-at-init
 loop-at-init c = (refl, omega arith)
@@ -19,13 +19,14 @@ loop-at-preserved c =
     let n : length c.args.v ≡ 32 = search rules in
     let m : length c.args.w ≡ 32 = search rules in
     let i = c.loop-at.invariant.0 in (
-      ⊎_elim
-          (λ w. rw w.1
+      elim c.if-v-at.branch [
+          then-v-at w ↦ rw w.same-is
           (no_more_alike eqb same_values no_values a_value c.args.v c.args.w 0 c.loop-at.at
-          (omega arith) (omega arith) c.loop-at.same (ne_eqb _ _ w.0.taken) i))
-          (λ w. rw w.1
+          (omega arith) (omega arith) c.loop-at.same (ne_eqb _ _ w.if-v-at.true) i)
+        | else-v-at w ↦ rw w.same-is
           (still_alike eqb same_values no_values a_value c.args.v c.args.w 0 c.loop-at.at
-          (omega arith) (omega arith) c.loop-at.same (eq-eqb _ _ w.0.left) i)) c.if-v-at.branch,
+          (omega arith) (omega arith) c.loop-at.same (eq-eqb _ _ w.if-v-at.false) i)
+      ],
       omega arith,
     )
 
