@@ -11,6 +11,7 @@ use Rattle.meaning.specs.Trace.{Trace}
 use Rattle.meaning.specs.Findings.{Ascending, Findings}
 
 low : (n : ℕ) (xs : List ℕ) {i : ℕ} → Ascending n xs → Memᴰ i xs → n ≤ i
+low n [] a m = elim m [ ]
 low n (x ∷ xs) a (Memᴰ.head e) = omega arith
 low n (x ∷ xs) a (Memᴰ.tail m) = omega (arith, low (suc x) xs a.1 m)
 

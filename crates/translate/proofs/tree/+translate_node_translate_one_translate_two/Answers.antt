@@ -1,0 +1,64 @@
+use native.Mathlib.Omega.{arith}
+use Rattle.requirement.specs.Walking.{walk_at}
+use Rattle.requirement.proofs.Walking.{walk_none}
+use Rattle.translate.specs.Writing.{untranslated}
+use Rattle.translate.proofs.Putting.{put_length}
+use Rattle.translate.proofs.Steps.{no_node, by_node, wrote_atom, wrote_mark, wrote_one, wrote_two}
+use Rattle.translate.proofs.tree.+translate_node_translate_one_translate_two.Goals as goal
+
+pub translate_node-returns-then-depth-eq0 : goal.translate_node-returns-then-depth-eq0
+translate_node-returns-then-depth-eq0 t c =
+    rw (walk_none _ _ _ _ c.if-depth-eq0.true) (tt, c.requires)
+
+pub translate_node-returns-in-Fault : goal.translate_node-returns-in-Fault
+translate_node-returns-in-Fault t c =
+    rw (no_node _ _ _ c.if-depth-eq0.false _ c.read_node.ensures _ _ c.in-Fault.is) (tt, c.requires)
+
+pub translate_node-returns-in-Atom : goal.translate_node-returns-in-Atom
+translate_node-returns-in-Atom t c =
+    wrote_atom _ _ _ c.if-depth-eq0.false _ c.read_node.ensures _ _ c.in-Found.is _ c.in-Atom.is
+    c.put_all.ensures
+
+pub translate_node-returns-in-Mark : goal.translate_node-returns-in-Mark
+translate_node-returns-in-Mark t c =
+    wrote_mark _ _ _ c.if-depth-eq0.false _ c.read_node.ensures _ _ c.in-Found.is _ c.in-Mark.is _
+    c.mark_number.ensures c.put_all-end-in-Mark.ensures
+
+pub translate_node-returns-in-OverOne : goal.translate_node-returns-in-OverOne
+translate_node-returns-in-OverOne t c =
+    rw (by_node _ _ _ c.if-depth-eq0.false _ c.read_node.ensures _ _ c.in-Found.is _ c.in-OverOne.is)
+    c.translate_one.ensures
+
+pub translate_node-returns-in-OverTwo : goal.translate_node-returns-in-OverTwo
+translate_node-returns-in-OverTwo t c =
+    rw (by_node _ _ _ c.if-depth-eq0.false _ c.read_node.ensures _ _ c.in-Found.is _ c.in-OverTwo.is)
+    c.translate_two.ensures
+
+pub translate_one-returns : goal.translate_one-returns
+translate_one-returns t c =
+    let a = c.args in
+    let p = c.one_before-begin.ensures in
+    let b = c.one_behind-end.ensures in (
+      wrote_one _ c.translate_node-operand.result (walk_at untranslated a.depth a.code.now a.at) p
+          c.translate_node-operand.ensures.0 b,
+      omega (arith, put_length p, put_length b, c.translate_node-operand.auto.out),
+    )
+
+pub translate_two-returns : goal.translate_two-returns
+translate_two-returns t c =
+    let a = c.args in
+    let p = c.two_before-begin.ensures in
+    let b = c.two_between-second_begin.ensures in
+    let e = c.two_behind-end.ensures in (
+      wrote_two _ c.translate_node-first.result c.translate_node-second.result
+          (λ next. walk_at untranslated a.depth a.code.now next) (walk_at untranslated a.depth a.code.now a.at) p
+          c.translate_node-first.ensures.0 b c.translate_node-second.ensures.0 e,
+      omega (
+        arith,
+        put_length p,
+        put_length b,
+        put_length e,
+        c.translate_node-first.auto.out,
+        c.translate_node-second.auto.out,
+      ),
+    )
