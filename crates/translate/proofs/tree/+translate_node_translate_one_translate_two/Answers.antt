@@ -17,7 +17,7 @@ translate_node-returns-in-Fault t c =
 pub translate_node-returns-in-Atom : goal.translate_node-returns-in-Atom
 translate_node-returns-in-Atom t c =
     wrote_atom _ _ _ c.if-depth-eq0.false _ c.read_node.ensures _ _ c.in-Found.is _ c.in-Atom.is
-    c.put_all.ensures
+    c.put_all-end.ensures
 
 pub translate_node-returns-in-Mark : goal.translate_node-returns-in-Mark
 translate_node-returns-in-Mark t c =
