@@ -1,0 +1,27 @@
+use Prim.Native.Nat.{◌+◌, ◌-◌, ◌*◌}
+use native.Mathlib.Omega.{arith}
+use mathlib.Core.Path.{◌≡◌}
+use mathlib.Core.Logic.{⊎_elim}
+use Rattle.judge.proofs.Listing.{listing_none, listing_zero, listing_done}
+use Rattle.judge.proofs.findings.list_row.Goals as goal
+
+pub loop-i-init : goal.loop-i-init
+loop-i-init c = listing_none _ _ _ c.requires.1
+
+pub list_byte-at-requires : goal.list_byte-at-requires
+list_byte-at-requires c =
+    (omega arith, omega arith, omega (arith, c.loop-i.invariant.room))
+
+pub loop-i-preserved : goal.loop-i-preserved
+loop-i-preserved c =
+    let l = c.loop-i in
+    let q : 8 * (l.i + 1) ≡ 8 * l.i + 8 = omega arith in
+    ⊎_elim (λ w. rw (w.5, w.6, q) (w.2.ensures _ _ (omega arith) l.invariant))
+    (λ w. rw (w.1, w.2, q) (listing_zero _ _ l.invariant (omega arith) w.0.left))
+    c.if-row-i-ne0.branch
+
+pub shape_of-list : goal.shape_of-list
+shape_of-list c = c.loop-i.invariant.size
+
+pub returns : goal.returns
+returns c = listing_done c.loop-i.invariant (omega arith)

@@ -1,0 +1,19 @@
+use Prim.Native.Nat.{◌-◌}
+use native.Mathlib.Omega.{arith}
+use Rattle.bits.proofs.Bytes.{packs_and, made_none, made_more}
+use Rattle.judge.proofs.Packing.{packs_behind}
+use Rattle.judge.proofs.rows.and_rows.Goals as goal
+
+pub loop-i-init : goal.loop-i-init
+loop-i-init c = (omega arith, made_none _ _)
+
+pub loop-i-preserved : goal.loop-i-preserved
+loop-i-preserved c =
+    let h = c.loop-i.invariant.1 in
+    (omega arith, made_more _ (omega arith) (packs_and _ _ _ (omega arith) (packs_behind c.args.n h) h) h)
+
+pub shape_of-work : goal.shape_of-work
+shape_of-work c = c.loop-i.invariant.1.size
+
+pub returns : goal.returns
+returns c = λ p h. c.loop-i.invariant.1.done p (omega arith)

@@ -1,0 +1,10 @@
+use Rattle.run.proofs.Closing.{alike, differs}
+use Rattle.run.proofs.route.close.Goals as goal
+
+pub returns-then-same_as : goal.returns-then-same_as
+returns-then-same_as c =
+    let a = c.args in alike a.q a.back a.last _ c.same_as.ensures c.if-same_as.true
+
+pub returns : goal.returns
+returns c =
+    let a = c.args in differs a.q a.back a.last _ c.same_as.ensures c.if-same_as.false
