@@ -1,9 +1,9 @@
 use Prim.Native.Nat.{◌-◌}
 use native.Mathlib.Omega.{arith}
 use mathlib.Core.Path.{◌≡◌, sym, ◌∙◌}
-use mathlib.Core.Logic.{⊎_elim}
 use Rattle.judge.proofs.Listing.{byte_none, byte_skip, byte_put}
 use Rattle.judge.proofs.findings.list_byte.Goals as goal
+use Rattle.judge.proofs.findings.list_byte.Goals.{then-bit, else-bit}
 
 pub loop-k-init : goal.loop-k-init
 loop-k-init c = byte_none _ _ _ _ (omega arith)
@@ -12,9 +12,11 @@ pub loop-k-preserved : goal.loop-k-preserved
 loop-k-preserved c =
     let h = c.loop-k.invariant in
     let e = sym c.bit.ensures in
-    ⊎_elim (λ w. rw (w.5, w.6) (byte_put h (omega arith) (e ∙ w.0.taken) _ _ w.2.ensures))
-    (λ w. rw (w.1, w.2) (byte_skip h (omega arith) (e ∙ w.0.left)))
-    c.if-bit.branch
+    elim c.if-bit.branch [
+        then-bit w ↦
+            rw (w.at-is, w.list-is) (byte_put h (omega arith) (e ∙ w.if-bit.true) _ _ w.put_position-at.ensures)
+      | else-bit w ↦ rw (w.at-is, w.list-is) (byte_skip h (omega arith) (e ∙ w.if-bit.false))
+    ]
 
 pub shape_of-list : goal.shape_of-list
 shape_of-list c = c.loop-k.invariant.size

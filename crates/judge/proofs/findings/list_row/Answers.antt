@@ -1,9 +1,9 @@
 use Prim.Native.Nat.{◌+◌, ◌-◌, ◌*◌}
 use native.Mathlib.Omega.{arith}
 use mathlib.Core.Path.{◌≡◌}
-use mathlib.Core.Logic.{⊎_elim}
 use Rattle.judge.proofs.Listing.{listing_none, listing_zero, listing_done}
 use Rattle.judge.proofs.findings.list_row.Goals as goal
+use Rattle.judge.proofs.findings.list_row.Goals.{then-row-i-ne0, else-row-i-ne0}
 
 pub loop-i-init : goal.loop-i-init
 loop-i-init c = listing_none _ _ _ c.requires.1
@@ -16,9 +16,11 @@ pub loop-i-preserved : goal.loop-i-preserved
 loop-i-preserved c =
     let l = c.loop-i in
     let q : 8 * (l.i + 1) ≡ 8 * l.i + 8 = omega arith in
-    ⊎_elim (λ w. rw (w.5, w.6, q) (w.2.ensures _ _ (omega arith) l.invariant))
-    (λ w. rw (w.1, w.2, q) (listing_zero _ _ l.invariant (omega arith) w.0.left))
-    c.if-row-i-ne0.branch
+    elim c.if-row-i-ne0.branch [
+        then-row-i-ne0 w ↦ rw (w.at-is, w.list-is, q) (w.list_byte-at.ensures _ _ (omega arith) l.invariant)
+      | else-row-i-ne0 w ↦
+            rw (w.at-is, w.list-is, q) (listing_zero _ _ l.invariant (omega arith) w.if-row-i-ne0.false)
+    ]
 
 pub shape_of-list : goal.shape_of-list
 shape_of-list c = c.loop-i.invariant.size
