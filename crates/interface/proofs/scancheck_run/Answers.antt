@@ -1,0 +1,6 @@
+use Rattle.interface.proofs.Tells.{ran_tells}
+use Rattle.interface.proofs.scancheck_run.Goals as goal
+
+pub returns : goal.returns
+returns c =
+    ran_tells _ _ _ _ _ _ _ c.tell_ran.ensures c.run.ensures

@@ -1,0 +1,6 @@
+use Rattle.interface.proofs.Tells.{tells}
+use Rattle.interface.proofs.scancheck_write_inputs.Goals as goal
+
+pub returns : goal.returns
+returns c =
+    tells _ _ _ _ _ _ c.tell_answer.ensures c.write_inputs.ensures
