@@ -3,4 +3,5 @@ use Rattle.interface.proofs.scancheck_read_requirement.Goals as goal
 
 pub returns : goal.returns
 returns c =
-    rw (← c.kind_of.ensures) (tells _ _ _ _ _ _ c.tell_answer.ensures c.read.ensures)
+    let told = tells _ _ _ _ _ _ c.tell_answer.ensures c.read.ensures in
+    rw (← c.kind_of.ensures) record { answers = told.0; leaves = told.1 }

@@ -3,4 +3,5 @@ use Rattle.interface.proofs.scancheck_translate.Goals as goal
 
 pub returns : goal.returns
 returns c =
-    tells _ _ _ _ _ _ c.tell_answer.ensures c.translate.ensures
+    let told = tells _ _ _ _ _ _ c.tell_answer.ensures c.translate.ensures in
+    record { answers = told.0; leaves = told.1 }

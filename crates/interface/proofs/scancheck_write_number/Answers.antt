@@ -3,4 +3,5 @@ use Rattle.interface.proofs.scancheck_write_number.Goals as goal
 
 pub returns : goal.returns
 returns c =
-    tells _ _ _ _ _ _ c.tell_answer.ensures c.write_number.ensures
+    let told = tells _ _ _ _ _ _ c.tell_answer.ensures c.write_number.ensures in
+    record { answers = told.0; leaves = told.1 }

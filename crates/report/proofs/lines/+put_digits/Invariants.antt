@@ -1,5 +1,4 @@
 use Rattle.report.proofs.lines.+put_digits.Given as goal
 
 abbrev pub decreases-put_digits : goal.decreases-put_digits
-decreases-put_digits l = ?
--- was: μ-put-digits κs a = a.1.0
+decreases-put_digits l = l.k
