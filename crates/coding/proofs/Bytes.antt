@@ -1,16 +1,16 @@
 -- A number's bytes, by its size, and what straight-line stores of them leave.
 -- Assumes nothing.
-use Prim.Native.Nat.{ℕ, suc, ◌+◌, ◌-◌, ◌*◌, ◌/◌, ◌%◌, ◌≤◌, ◌<◌}
+use Prim.Native.Nat.{ℕ, suc, ◌+◌, ◌/◌, ◌%◌, ◌≤◌, ◌<◌}
 use native.Mathlib.Omega.{arith}
 use native.Mathlib.Numerals.{add-one, add-two}
-use mathlib.Core.Path.{◌≡◌, refl, sym, ◌∙◌, ap}
+use mathlib.Core.Path.{◌≡◌, refl}
 use mathlib.Core.List.{List, [], ◌∷◌, ◌++◌}
 use lib.ListN.{length, set, take, drop}
 use native.Mathlib.Nat.{add-zero, add-suc, suc-add}
 use lib.Dec.{ltb, lit≤}
 use mathlib.Core.Bool.{Bool, true, false}
-use lib.Seq.{sets, sets-eq, length-sets, set_out}
-use borrow.Author.Tests.{lt-ltb, le-ltb, le-leb, lt-leb}
+use lib.Seq.{sets-eq, length-sets, set_out}
+use borrow.Author.Tests.{lt-ltb, le-ltb}
 use Rattle.coding.specs.Number.{bytes_of, pick}
 use Rattle.coding.specs.Room.{over}
 

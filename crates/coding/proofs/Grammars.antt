@@ -4,15 +4,14 @@ use Prim.Native.Nat.{ℕ, ◌+◌, ◌≤◌, ◌<◌}
 use native.Mathlib.Omega.{arith}
 use mathlib.Core.Path.{◌≡◌, refl, sym, ◌∙◌, ap}
 use mathlib.Core.Bool.{Bool, true, false}
-use mathlib.Core.List.{List, [], ◌∷◌, ◌++◌}
+use mathlib.Core.List.{List, [], ◌∷◌}
 use lib.ListN.{length, take, drop, get_or}
 use lib.Seq.{take-append_seam}
 use lib.Dec.{leb}
 use borrow.Author.Tests.{le-leb, leb-true}
 use Rattle.coding.specs.Number.{pick}
-use Rattle.coding.specs.Code.{Code, item, end, broken, code_at, numbered, values, bytes_of_all}
+use Rattle.coding.specs.Code.{Code, code_at, numbered, values, bytes_of_all}
 use Rattle.coding.specs.Room.{over, settled, resized, read_by, write_by}
-use Rattle.coding.specs.declared.Cause.{Cause}
 use Rattle.coding.specs.declared.Cause.TheVariants.{ShortBuffer}
 use Rattle.coding.specs.declared.Answer.{Answer}
 use Rattle.coding.specs.declared.Answer.TheVariants.{Count, Refused}

@@ -1,9 +1,9 @@
 -- One turn of the loops over a row of numbers.
 -- Assumes nothing.
-use Prim.Native.Nat.{ℕ, ◌+◌, ◌*◌, ◌≤◌, ◌<◌}
+use Prim.Native.Nat.{ℕ, ◌+◌, ◌≤◌, ◌<◌}
 use native.Mathlib.Omega.{arith}
-use mathlib.Core.Path.{◌≡◌, refl, sym, ◌∙◌, ap}
-use mathlib.Core.List.{List, [], ◌∷◌, ◌++◌}
+use mathlib.Core.Path.{◌≡◌, ◌∙◌, ap}
+use mathlib.Core.List.{List}
 use lib.ListN.{length, get_or, drop, length-append}
 use Rattle.coding.specs.Number.{bytes_of}
 use Rattle.coding.specs.Code.{bytes_of_all}

@@ -1,17 +1,15 @@
 -- What `number_at` says on each way through `read_number`.
 -- Assumes nothing.
-use Prim.Native.Nat.{ℕ, suc, ◌+◌, ◌-◌, ◌*◌, ◌≤◌, ◌<◌}
-use native.Mathlib.Omega.{arith}
+use Prim.Native.Nat.{ℕ, ◌+◌, ◌-◌, ◌*◌, ◌≤◌, ◌<◌}
 use native.Mathlib.Numerals.{add-one}
 use native.Mathlib.Nat.{add_assoc}
-use mathlib.Core.Path.{◌≡◌, refl, sym, ◌∙◌, ap}
-use mathlib.Core.List.{List, [], ◌∷◌}
+use mathlib.Core.Path.{◌≡◌}
+use mathlib.Core.List.{List, ◌∷◌}
 use lib.ListN.{length, get_or, drop, drop_of_length-le}
 use lib.Seq.{drop-cons}
 use borrow.Author.Tests.{lt-ltb, le-ltb, eq-eqb, ne_eqb}
-use Rattle.coding.specs.Number.{number_at, first, second, third, placed, pick, Begin, number, none}
+use Rattle.coding.specs.Number.{number_at, second, third, placed}
 use Rattle.coding.specs.declared.Cause.TheVariants.{CutShort, NotShortest, TooLarge}
-use Rattle.coding.specs.declared.Number.{Number}
 use Rattle.coding.specs.declared.Number.TheVariants.{Value, Fault}
 
 pub drop_at : (s : List ℕ) (i : ℕ) → i < length s → drop i s ≡ get_or s i 0 ∷ drop (i + 1) s

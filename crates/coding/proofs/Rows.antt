@@ -3,7 +3,7 @@
 use Prim.Native.Nat.{ℕ, zero, suc, ◌+◌, ◌-◌, ◌≤◌, ◌<◌}
 use native.Mathlib.Omega.{arith}
 use native.Mathlib.Nat.{le_refl}
-use mathlib.Core.Path.{◌≡◌, refl, sym, ◌∙◌, ap, subst}
+use mathlib.Core.Path.{◌≡◌, refl, ◌∙◌, ap}
 use mathlib.Core.Logic.{◌⊎◌, inl, inr, ⊎_elim}
 use mathlib.Core.List.{List, [], ◌∷◌, ◌++◌}
 use mathlib.Core.Bool.{Bool, true, false}
@@ -12,7 +12,7 @@ use lib.Seq.{drop-drop}
 use lib.Dec.{ltb, eqb}
 use Rattle.coding.specs.Number.{first, second, third, pick, Begin, number, none, number_at, placed, bytes_of}
 use Rattle.coding.proofs.Numbers.{drop_at}
-use Rattle.coding.specs.Code.{Code, item, end, broken, item_or, first_item, code_from, code_at, values, bytes_of_all}
+use Rattle.coding.specs.Code.{item, end, broken, item_or, code_from, code_at, values, bytes_of_all}
 use Rattle.coding.specs.declared.Cause.{Cause}
 use Rattle.coding.specs.declared.Cause.TheVariants.{CutShort}
 use Rattle.coding.specs.declared.Number.{Number}

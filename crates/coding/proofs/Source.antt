@@ -2,16 +2,15 @@
 -- Assumes nothing.
 use Prim.Native.Nat.{ℕ, ◌+◌, ◌≤◌, ◌<◌}
 use native.Mathlib.Omega.{arith}
-use mathlib.Core.Path.{◌≡◌, refl, sym, ◌∙◌, ap}
-use mathlib.Core.Logic.{◌⊎◌, inl, inr, ⊎_elim}
+use mathlib.Core.Path.{◌≡◌, refl}
+use mathlib.Core.Logic.{◌⊎◌, inl}
 use mathlib.Core.Bool.{Bool, true, false}
-use mathlib.Core.List.{List, [], ◌∷◌}
-use lib.ListN.{length, get_or, drop, drop_of_length-le}
+use mathlib.Core.List.{List}
+use lib.ListN.{length, get_or, drop_of_length-le}
 use lib.Dec.{ltb}
 use borrow.Author.Tests.{ltb-true, ltb-false, lt-ltb, le-ltb}
 use Rattle.coding.specs.Number.{number_at, pick}
-use Rattle.coding.specs.Code.{Code, item, end, broken, code_at, numbered, source_number, source_size, source_at}
-use Rattle.coding.specs.declared.Cause.{Cause}
+use Rattle.coding.specs.Code.{Code, item, end, broken, code_at, source_number, source_size, source_at}
 use Rattle.coding.specs.declared.Cause.TheVariants.{CutShort}
 use Rattle.coding.specs.declared.Number.{Number}
 use Rattle.coding.specs.declared.Number.TheVariants.{Value, Fault}

@@ -1,6 +1,6 @@
 -- A code as a row of numbers, each with its place: what every check goes over, whether it reads bytes (a place is a byte) or is handed numbers (a place is an index).
 -- Assumes nothing: these are definitions.
-use Rattle.std.specs.Prelude.{ℕ, zero, suc, ◌+◌, List, [], ◌∷◌, ◌++◌, Bool, true, false, length, drop, get_or, ltb}
+use Rattle.std.specs.Prelude.{ℕ, zero, suc, ◌+◌, List, [], ◌∷◌, ◌++◌, Bool, length, drop, get_or, ltb}
 use Rattle.coding.specs.Number.{Begin, number, none, first, bytes_of, pick, number_at}
 use Rattle.coding.specs.declared.Cause.{Cause}
 use Rattle.coding.specs.declared.Cause.TheVariants.{CutShort}

@@ -1,7 +1,7 @@
 -- A strictly ascending list is known by its members; so a requirement's findings are one list. Assumes nothing.
-use Prim.Native.Nat.{ℕ, suc, zero, ◌≤◌, ◌<◌}
+use Prim.Native.Nat.{ℕ, suc, ◌≤◌}
 use native.Mathlib.Omega.{arith}
-use mathlib.Core.Path.{◌≡◌, refl, subst, sym, ap}
+use mathlib.Core.Path.{◌≡◌, refl, sym}
 use mathlib.Core.Logic.Iff
 use mathlib.Core.Logic.{◌↔◌, ⊎_elim}
 use mathlib.Core.List.Memᴰ

@@ -1,19 +1,13 @@
 -- A translation has plain operators only, at most eleven times the nodes, and five levels for one. Assumes nothing.
-use Prim.Native.Nat.{ℕ, suc, zero, ◌≤◌, ◌<◌, ◌+◌, ◌-◌, ◌*◌, max}
+use Prim.Native.Nat.{◌≤◌, ◌+◌, ◌*◌, max}
 use native.Mathlib.Omega.{arith}
-use mathlib.Core.Path.{◌≡◌, refl, sym, ap, ◌∙◌}
-use Rattle.requirement.specs.declared.Phase.{Phase}
-use Rattle.requirement.specs.declared.End.{End}
 use Rattle.requirement.specs.declared.Family.{Family}
 use Rattle.requirement.specs.declared.One.{One}
 use Rattle.requirement.specs.declared.Two.{Two}
-use Rattle.requirement.specs.declared.Phase.TheVariants.{Input, Exe, Output}
-use Rattle.requirement.specs.declared.End.TheVariants.{Reads, Writes}
 use Rattle.requirement.specs.declared.Family.TheVariants.{Plain, Within, Each}
 use Rattle.requirement.specs.declared.One.TheVariants.{Not, Next, Ever, Always}
 use Rattle.requirement.specs.declared.Two.TheVariants.{And, Until}
 use Rattle.requirement.specs.Requirement.{Requirement, atom, mark, one, two, nodes_of, depth_of}
-use Rattle.meaning.specs.Phases.{phase_of}
 use Rattle.meaning.specs.Translation.{Operators, written, translate, one_to, two_to}
 use Rattle.meaning.proofs.Related.{Related, one_related, two_related}
 

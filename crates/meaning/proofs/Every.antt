@@ -6,7 +6,7 @@ use mathlib.Core.Logic.{◌↔◌}
 use Rattle.requirement.specs.declared.Phase.TheVariants.{Output}
 use Rattle.requirement.specs.Requirement.{Requirement, atom, mark, one, two}
 use Rattle.meaning.specs.Meaning.{Run, First, NextOf, EverOf, AlwaysOf, UntilOf, Says, Says₂, Holds}
-use Rattle.meaning.specs.Translation.{Operators, written, translate}
+use Rattle.meaning.specs.Translation.{written, translate}
 use Rattle.meaning.proofs.Forms.{meant, one_form, two_form}
 use Rattle.meaning.proofs.Related.{Related, one_related, two_related}
 

@@ -1,15 +1,14 @@
 -- Each operator of the e, i and o families is its form in plain operators and marks, for any operands that can be decided; i and o once, over the phase.
 -- `often` is asked by the e operators alone. Assumes nothing.
-use Prim.Native.Nat.{ℕ, suc, zero, ◌≤◌, ◌<◌, ◌+◌, ◌-◌}
+use Prim.Native.Nat.{ℕ, ◌≤◌, ◌<◌}
 use native.Mathlib.Omega.{arith}
 use mathlib.Core.Logic.{◌↔◌}
-use mathlib.Core.Path.{◌≡◌, refl, subst, sym}
+use mathlib.Core.Path.{◌≡◌, subst, sym}
 use Rattle.requirement.specs.declared.Phase.{Phase}
 use Rattle.requirement.specs.declared.End.{End}
-use Rattle.requirement.specs.declared.Family.{Family}
 use Rattle.requirement.specs.declared.One.{One}
 use Rattle.requirement.specs.declared.Two.{Two}
-use Rattle.requirement.specs.declared.Phase.TheVariants.{Input, Exe, Output}
+use Rattle.requirement.specs.declared.Phase.TheVariants.{Exe, Output}
 use Rattle.requirement.specs.declared.Family.TheVariants.{Plain, Within, Each}
 use Rattle.requirement.specs.declared.One.TheVariants.{Not, Next, Ever, Always}
 use Rattle.requirement.specs.declared.Two.TheVariants.{And, Until}

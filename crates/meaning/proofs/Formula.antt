@@ -2,7 +2,7 @@
 use Prim.Native.Nat.{ℕ, suc, zero, ◌≤◌, ◌<◌, ◌+◌, ◌-◌, ◌%◌}
 use native.Mathlib.Omega.{arith}
 use native.Mathlib.Nat.{eq-or-lt_of_le, suc-mod, mod-lt, mod_self, mod-eq_of_lt, zero-mod}
-use mathlib.Core.Path.{◌≡◌, refl, sym, ap, ◌∙◌}
+use mathlib.Core.Path.{◌≡◌, ap, ◌∙◌}
 use mathlib.Core.Logic.{⊎_elim}
 use Rattle.meaning.specs.Trace.{Trace, position, WellFormed}
 use Rattle.meaning.proofs.Walk.{step_inside, step_join}

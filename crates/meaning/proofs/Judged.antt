@@ -12,9 +12,9 @@ use Rattle.requirement.specs.declared.Family.TheVariants.{Plain}
 use Rattle.requirement.specs.Requirement.{Requirement, atom, mark, one, two}
 use Rattle.meaning.specs.Phases.{Phase-discrete}
 use Rattle.meaning.specs.Meaning.{First, NextOf, EverOf, AlwaysOf, UntilOf, Holds}
-use Rattle.meaning.specs.Translation.{Operators, written, translate}
-use Rattle.meaning.specs.Trace.{Trace, position, after, endless, WellFormed}
-use Rattle.meaning.specs.Rows.{rowed, until_row, judge}
+use Rattle.meaning.specs.Translation.{written, translate}
+use Rattle.meaning.specs.Trace.{Trace, position, endless, WellFormed}
+use Rattle.meaning.specs.Rows.{rowed, judge}
 use Rattle.meaning.proofs.Sequence.{nth_has, nth_first}
 use Rattle.meaning.proofs.Forms.{meant, stable, one_form, two_form}
 use Rattle.meaning.proofs.Walk.{Shows, until_shows, and_both, and_pair, step_inside, step_join, start, position_below}

@@ -1,6 +1,5 @@
 -- What is related at the marks and at every plain operator is related at every form of the translation's table. Assumes nothing.
 use Rattle.requirement.specs.declared.Phase.{Phase}
-use Rattle.requirement.specs.declared.Family.{Family}
 use Rattle.requirement.specs.declared.One.{One}
 use Rattle.requirement.specs.declared.Two.{Two}
 use Rattle.requirement.specs.declared.Phase.TheVariants.{Exe, Output}

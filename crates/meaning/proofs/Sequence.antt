@@ -5,7 +5,6 @@ use native.Mathlib.Nat.{eq-or-lt_of_le, le_of_suc-le-suc}
 use mathlib.Core.Logic.{⊎_elim}
 use mathlib.Core.Path.{◌≡◌, refl, subst}
 use Rattle.requirement.specs.declared.Phase.{Phase}
-use Rattle.requirement.specs.declared.Phase.TheVariants.{Input, Exe, Output}
 use Rattle.meaning.specs.Phases.{Phase-discrete}
 use Rattle.meaning.specs.Meaning.{Run, First, Nth, head, tail}
 

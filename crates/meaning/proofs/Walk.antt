@@ -3,18 +3,12 @@ use Prim.Native.Nat.{ℕ, suc, zero, ◌≤◌, ◌<◌, ◌+◌, ◌-◌}
 use native.Mathlib.Omega.{arith}
 use native.Mathlib.Nat.{eq-or-lt_of_le}
 use mathlib.Core.Logic.{◌↔◌, ◌⊎◌, inl, inr, ⊎_elim}
-use mathlib.Core.Path.{◌≡◌, refl, subst, sym, ap, ◌∙◌}
-use mathlib.Core.Bool.{Bool, true, false, ◌&&◌, ◌||◌, cond, So, false≢true}
+use mathlib.Core.Path.{◌≡◌, refl, subst}
+use mathlib.Core.Bool.{Bool, true, false, ◌&&◌, ◌||◌, So, false≢true}
 use borrow.Author.Tests.{lt-ltb, le-ltb}
-use lib.Dec.{ltb}
-use Rattle.requirement.specs.declared.Phase.{Phase}
-use Rattle.requirement.specs.declared.End.{End}
-use Rattle.requirement.specs.declared.Family.{Family}
-use Rattle.requirement.specs.declared.Phase.TheVariants.{Input, Exe, Output}
-use Rattle.requirement.specs.declared.Family.TheVariants.{Plain, Within, Each}
-use Rattle.meaning.specs.Phases.{phase_of}
-use Rattle.meaning.specs.Meaning.{Run, UntilOf}
-use Rattle.meaning.specs.Trace.{Trace, position, after, endless}
+use Rattle.requirement.specs.declared.Family.TheVariants.{Plain}
+use Rattle.meaning.specs.Meaning.{UntilOf}
+use Rattle.meaning.specs.Trace.{Trace, position, endless}
 use Rattle.meaning.specs.Rows.{walk, until_row}
 
 -- A row shows a fact of the moments: at each moment it is the row's bit at the moment's position.

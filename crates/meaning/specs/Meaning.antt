@@ -1,12 +1,11 @@
 -- What a requirement means. Document 01, Meaning: "Over moments of the endless run, not over the stored loop."
 -- Assumes nothing: these are definitions.
-use Rattle.std.specs.Prelude.{ℕ, suc, zero, ◌≤◌, ◌<◌, ◌≡◌, Bool, true}
+use Rattle.std.specs.Prelude.{ℕ, suc, ◌≤◌, ◌<◌, ◌≡◌, Bool, true}
 use Rattle.requirement.specs.declared.Phase.{Phase}
-use Rattle.requirement.specs.declared.End.{End}
 use Rattle.requirement.specs.declared.Family.{Family}
 use Rattle.requirement.specs.declared.One.{One}
 use Rattle.requirement.specs.declared.Two.{Two}
-use Rattle.requirement.specs.declared.Phase.TheVariants.{Input, Exe, Output}
+use Rattle.requirement.specs.declared.Phase.TheVariants.{Exe, Output}
 use Rattle.requirement.specs.declared.Family.TheVariants.{Plain, Within, Each}
 use Rattle.requirement.specs.declared.One.TheVariants.{Not, Next, Ever, Always}
 use Rattle.requirement.specs.declared.Two.TheVariants.{And, Until}

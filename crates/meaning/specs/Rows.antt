@@ -3,7 +3,6 @@
 -- Assumes nothing: these are definitions.
 use Rattle.std.specs.Prelude.{ℕ, suc, zero, ◌-◌, Bool, true, false, not as inv, ◌&&◌, ◌||◌}
 use Rattle.std.proofs.Math.Bool.{decide}
-use Rattle.requirement.specs.declared.Phase.{Phase}
 use Rattle.requirement.specs.Requirement.{Requirement, atom, mark, one, two}
 use Rattle.meaning.specs.Phases.{Phase-discrete}
 use Rattle.meaning.specs.Translation.{Operators, one_to, two_to}

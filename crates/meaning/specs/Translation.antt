@@ -2,11 +2,9 @@
 -- operators: requirements (the translation itself), rows (the judging) and facts about moments (the proofs).
 -- Assumes nothing: these are definitions.
 use Rattle.requirement.specs.declared.Phase.{Phase}
-use Rattle.requirement.specs.declared.End.{End}
-use Rattle.requirement.specs.declared.Family.{Family}
 use Rattle.requirement.specs.declared.One.{One}
 use Rattle.requirement.specs.declared.Two.{Two}
-use Rattle.requirement.specs.declared.Phase.TheVariants.{Input, Exe, Output}
+use Rattle.requirement.specs.declared.Phase.TheVariants.{Exe, Output}
 use Rattle.requirement.specs.declared.Family.TheVariants.{Plain, Within, Each}
 use Rattle.requirement.specs.declared.One.TheVariants.{Not, Next, Ever, Always}
 use Rattle.requirement.specs.declared.Two.TheVariants.{And, Until}

@@ -1,7 +1,7 @@
 -- Document 01, Coding: "Table, in this order: ..", "Inputs: scans q (1 to 1,365), return scan b (below q), then one number per input variable per scan",
 -- as a machine that is handed one number at a time.
 -- Assumes nothing: these are definitions.
-use Rattle.std.specs.Prelude.{ℕ, ◌+◌, ◌-◌, ◌*◌, Bool, true, false, ltb, leb, eqb}
+use Rattle.std.specs.Prelude.{ℕ, ◌+◌, ◌-◌, ◌*◌, Bool, ltb, leb, eqb}
 use Rattle.ranges.specs.Limits.{most_tests, most_states, most_actions, most_scans}
 use Rattle.ranges.specs.Values.{pick, within, total_ok, is_internal, test_a_ok, op_ok, x_ok, y_ok, uses_nexts, guard_ok, uses_else, next_ok}
 use Rattle.ranges.specs.declared.Shape.{Shape}

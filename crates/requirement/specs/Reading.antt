@@ -15,11 +15,8 @@ use Rattle.coding.specs.declared.Answer.TheVariants.{Count, Refused}
 use Rattle.requirement.specs.Requirement.{Requirement, atom, mark, one, two, nodes_of, depth_of}
 use Rattle.requirement.specs.Limits.{node_limit, depth_limit, highest_atom, tag_in}
 use Rattle.requirement.specs.declared.Kind.{Kind}
-use Rattle.requirement.specs.declared.One.{One}
-use Rattle.requirement.specs.declared.Two.{Two}
 use Rattle.requirement.specs.declared.Tag.{Tag}
 use Rattle.requirement.specs.declared.Tag.TheVariants.{Atom, Mark, OverOne, OverTwo, Unknown}
-use Rattle.requirement.specs.declared.Node.{Node}
 use Rattle.requirement.specs.declared.Node.TheVariants.{Atom as AtomNode, Mark as MarkNode, OverOne as OneNode, OverTwo as TwoNode}
 use Rattle.requirement.specs.declared.NodeRead.{NodeRead}
 use Rattle.requirement.specs.declared.NodeRead.TheVariants.{Found, Fault as NoNode}

@@ -4,7 +4,6 @@ use Rattle.std.specs.Prelude.{ℕ, zero, suc, ◌+◌, ◌-◌, List, [], ◌∷
 use Rattle.coding.specs.Number.{pick, number_at}
 use Rattle.coding.specs.Refusal.{accepted, refusal}
 use Rattle.coding.specs.declared.Told.{Told}
-use Rattle.coding.specs.declared.Cause.{Cause}
 use Rattle.coding.specs.declared.Cause.TheVariants.{CutShort, LeftOver, NotAllowed, NameAbsent}
 use Rattle.coding.specs.declared.Number.{Number}
 use Rattle.coding.specs.declared.Number.TheVariants.{Value, Fault}

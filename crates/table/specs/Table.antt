@@ -1,13 +1,12 @@
 -- The grammars of a table and of an inputs record. Document 01, Numbers of refusal: "Codes are read left to right and the first fault counts ..;
 -- then left-over bytes; then kind 2's a (1 to the process count) and b, left to right."
 -- Assumes nothing: these are definitions.
-use Rattle.std.specs.Prelude.{ℕ, ◌+◌, Bool, true, false, List, [], ◌∷◌, length, get_or, set, replicate, ltb, leb, eqb}
+use Rattle.std.specs.Prelude.{ℕ, ◌+◌, Bool, true, List, get_or, set, replicate, ltb, leb, eqb}
 use Rattle.coding.specs.Code.{Code, item, end, broken}
-use Rattle.coding.specs.declared.Cause.{Cause}
 use Rattle.coding.specs.declared.Cause.TheVariants.{CutShort, LeftOver, NotAllowed}
 use Rattle.coding.specs.declared.Answer.{Answer}
 use Rattle.coding.specs.declared.Answer.TheVariants.{Count, Refused}
-use Rattle.ranges.specs.Limits.{most_variables, most_processes, err_state}
+use Rattle.ranges.specs.Limits.{most_variables, err_state}
 use Rattle.ranges.specs.Values.{pick, within}
 use Rattle.ranges.specs.Order.{step_of}
 use Rattle.ranges.specs.declared.Want.{Want}
@@ -16,7 +15,6 @@ use Rattle.table.specs.declared.Role.{Role}
 use Rattle.table.specs.declared.Role.TheVariants.{ProcessCount, StateCount, OfTestA, OfTestB, Other}
 use Rattle.table.specs.declared.tests.Ruling.{Ruling}
 use Rattle.table.specs.declared.tests.Ruling.TheVariants.{Fine, Wrong, Behind}
-use Rattle.ranges.specs.declared.Step.{Step}
 use Rattle.ranges.specs.declared.Step.TheVariants.{More, Last, NotAllowed as Bad}
 
 -- Nothing may be left over.

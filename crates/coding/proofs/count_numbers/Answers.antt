@@ -1,6 +1,5 @@
 use native.Mathlib.Omega.{arith}
 use mathlib.Core.Path.{sym, ◌∙◌, ap}
-use Prim.Native.Nat.{◌-◌}
 use lib.ListN.{length}
 use Rattle.coding.proofs.Rows.{no_values, next_values, next_row}
 use Rattle.coding.proofs.count_numbers.Goals as goal

@@ -1,7 +1,6 @@
 use Rattle.coding.proofs.Loops.{size_turn}
 use native.Mathlib.Omega.{arith}
 use mathlib.Core.Path.{ap}
-use Prim.Native.Nat.{◌-◌}
 use lib.ListN.{length}
 use Rattle.coding.proofs.Rows.{bytes_none}
 use Rattle.coding.proofs.size_of_all.Goals as goal

@@ -2,7 +2,6 @@ use Rattle.coding.proofs.Loops.{bytes_turn}
 use lib.ListN.{length-append}
 use native.Mathlib.Omega.{arith}
 use mathlib.Core.Path.{◌∙◌}
-use Prim.Native.Nat.{◌-◌}
 use Rattle.coding.proofs.Bytes.{over_nil}
 use Rattle.coding.proofs.Rows.{bytes_next, bytes_none}
 use Rattle.coding.proofs.store_bytes.Goals as goal

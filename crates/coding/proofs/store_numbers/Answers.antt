@@ -1,5 +1,4 @@
 use mathlib.Core.Path.{sym, ◌∙◌}
-use Prim.Native.Nat.{◌-◌}
 use lib.ListN.{length-set}
 use Rattle.coding.proofs.Bytes.{over_cons, over_nil, over_full}
 use Rattle.coding.proofs.Rows.{no_values, next_values}

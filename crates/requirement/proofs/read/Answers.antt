@@ -2,10 +2,9 @@ use Rattle.requirement.proofs.Answers.{of-bytes}
 use Rattle.requirement.proofs.read.Goals as goal
 
 pub returns : goal.returns
-returns c =
-    (
-      rw
-          (← of-bytes _ _ _ _ _ _ c.counted_numbers-answer.ensures c.check-found.ensures
-          c.count_numbers.ensures) c.read_checked.ensures.0,
-      c.read_checked.ensures.1,
-    )
+returns c = (
+  rw
+      (← of-bytes _ _ _ _ _ _ c.counted_numbers-answer.ensures c.check-found.ensures
+      c.count_numbers.ensures) c.read_checked.ensures.0,
+  c.read_checked.ensures.1,
+)

@@ -1,6 +1,5 @@
 use Rattle.table.specs.Table.{inputs_grammar}
 use Rattle.table.proofs.Whole.{reads}
-use Rattle.table.proofs.read_inputs.Reads as reads
 use Rattle.table.proofs.read_inputs.Goals as goal
 
 pub returns : goal.returns

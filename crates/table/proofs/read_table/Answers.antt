@@ -1,7 +1,6 @@
 use Rattle.ranges.specs.Limits.{most_processes}
 use Rattle.table.specs.Table.{table_grammar}
 use Rattle.table.proofs.Whole.{reads}
-use Rattle.table.proofs.read_table.Reads as reads
 use Rattle.table.proofs.read_table.Goals as goal
 
 pub returns : goal.returns

@@ -1,4 +1,3 @@
-use Prim.Native.Nat.{◌-◌}
 use mathlib.Core.Path.{◌≡◌, refl}
 use native.Mathlib.Omega.{arith}
 use borrow.Author.Tests.{eq-eqb, ne_eqb}
@@ -19,12 +18,12 @@ loop-at-preserved c =
     let m : length c.args.w ≡ 8 = search (rules, mapped) in
     let i = c.loop-at.invariant.0 in (
       elim c.if-f-g.branch [
-          then-f-g w ↦ rw w.same-is
-          (no_more_alike seen_test seen no_states a_state c.args.v c.args.w _ c.loop-at.at (omega arith)
-          (omega arith) c.loop-at.same (ne_eqb _ _ w.if-f-g.true) i)
+        | then-f-g w ↦ rw w.same-is
+            (no_more_alike seen_test seen no_states a_state c.args.v c.args.w _ c.loop-at.at (omega arith)
+            (omega arith) c.loop-at.same (ne_eqb _ _ w.if-f-g.true) i)
         | else-f-g w ↦ rw w.same-is
-          (still_alike seen_test seen no_states a_state c.args.v c.args.w _ c.loop-at.at (omega arith)
-          (omega arith) c.loop-at.same (eq-eqb _ _ w.if-f-g.false) i)
+            (still_alike seen_test seen no_states a_state c.args.v c.args.w _ c.loop-at.at (omega arith)
+            (omega arith) c.loop-at.same (eq-eqb _ _ w.if-f-g.false) i)
       ],
       omega arith,
     )

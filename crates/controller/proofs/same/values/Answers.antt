@@ -1,4 +1,3 @@
-use Prim.Native.Nat.{◌-◌}
 use mathlib.Core.Path.{◌≡◌, refl}
 use native.Mathlib.Omega.{arith}
 use borrow.Author.Tests.{eq-eqb, ne_eqb}
@@ -20,12 +19,12 @@ loop-at-preserved c =
     let m : length c.args.w ≡ 32 = search rules in
     let i = c.loop-at.invariant.0 in (
       elim c.if-v-at.branch [
-          then-v-at w ↦ rw w.same-is
-          (no_more_alike eqb same_values no_values a_value c.args.v c.args.w 0 c.loop-at.at
-          (omega arith) (omega arith) c.loop-at.same (ne_eqb _ _ w.if-v-at.true) i)
+        | then-v-at w ↦ rw w.same-is
+            (no_more_alike eqb same_values no_values a_value c.args.v c.args.w 0 c.loop-at.at
+            (omega arith) (omega arith) c.loop-at.same (ne_eqb _ _ w.if-v-at.true) i)
         | else-v-at w ↦ rw w.same-is
-          (still_alike eqb same_values no_values a_value c.args.v c.args.w 0 c.loop-at.at
-          (omega arith) (omega arith) c.loop-at.same (eq-eqb _ _ w.if-v-at.false) i)
+            (still_alike eqb same_values no_values a_value c.args.v c.args.w 0 c.loop-at.at
+            (omega arith) (omega arith) c.loop-at.same (eq-eqb _ _ w.if-v-at.false) i)
       ],
       omega arith,
     )

@@ -19,12 +19,11 @@ pub loop-left-smaller : goal.loop-left-smaller
 loop-left-smaller c = omega arith
 
 pub loop-left-preserved : goal.loop-left-preserved
-loop-left-preserved c =
-    (
-      rw (c.after_states-at.ensures.0, c.number-states.ensures)
-          (sym (pass_process _ _ _ c.loop-left-test.true) ∙ c.loop-left.invariant.0),
-      omega arith,
-    )
+loop-left-preserved c = (
+  rw (c.after_states-at.ensures.0, c.number-states.ensures)
+      (sym (pass_process _ _ _ c.loop-left-test.true) ∙ c.loop-left.invariant.0),
+  omega arith,
+)
 
 pub returns : goal.returns
 returns c =

@@ -1,4 +1,3 @@
-use Prim.Native.Nat.{◌-◌}
 use native.Mathlib.Omega.{arith}
 use Rattle.table.proofs.Stands.{stays, few_behind, acted}
 use Rattle.table.proofs.skips.skip_actions.Goals as goal
