@@ -28,12 +28,12 @@ use Rattle.judge.specs.Judging.{go, work_asked, list_asked, checks_of, Judges}
 use Rattle.judge.specs.declared.Judged.{Judged}
 use Rattle.judge.specs.declared.Judged.TheVariants.{Verdict, Refused}
 use Rattle.judge.proofs.judge.Kinds as judge
-use Rattle.judge.proofs.judge.Reads as judge-reads
+use Rattle.judge.proofs.judge.Reads as judge_reads
 use Rattle.run.specs.Trace.{trace_bytes, numbers_in, run_of}
 use Rattle.run.specs.declared.Ran.{Ran}
 use Rattle.run.specs.declared.Ran.TheVariants.{Closed}
 use Rattle.run.proofs.run.Kinds as run
-use Rattle.run.proofs.run.Reads as run-reads
+use Rattle.run.proofs.run.Reads as run_reads
 use Rattle.endless.specs.Unrolled.{rules_run}
 use Rattle.endless.specs.ByTheRules.{ByTheRules}
 use Rattle.endless.proofs.Closed.{run_is_lasso, unrolled}
@@ -80,10 +80,10 @@ module _ (kind : Kind) (table inputs code trace work list : List ℕ) (n start :
 -- themselves: the first is answered by a position count and a loop start, and the second is given what the first left
 -- in its buffer, 5 bytes a position, and that loop start.
 pub calls_right : (κs : Lfts 3) (a : Dens κs run.ps) (ran : Ran) (e : AtExit (ended_of 3 run.ps run.r) κs) →
-    run-reads.Post κs a ran e →
+    run_reads.Post κs a ran e →
     (n start : ℕ) → ran ≡ Closed n start →
     (λs : Lfts 4) (b : Dens λs judge.ps) (answer : Judged) (d : AtExit (ended_of 4 judge.ps judge.r) λs) →
-    judge-reads.Post λs b answer d →
+    judge_reads.Post λs b answer d →
     (f : Requirement) → parsed b.0 (code_at b.1.0.now 0) ≡ whole f →
     b.1.1.0.now ≡ take (n * 5) e.1.1.0.now → b.1.1.1.0 ≡ start →
     work_asked b.1.1.0.now f ≤ length b.1.1.1.1.0.now →

@@ -3,8 +3,7 @@
 use Prim.Native.Nat.{ℕ, zero, suc, ◌+◌, ◌-◌, ◌*◌, ◌/◌, ◌^◌, ◌<◌, ◌≤◌}
 use native.Mathlib.Omega.{arith}
 use native.Mathlib.Nat.{le_refl, zero-add, mul-le-mul, min-le_left}
-use mathlib.Core.Path.{◌≡◌, refl, sym, ap, ◌∙◌}
-use mathlib.Core.Logic.{◌↔◌}
+use mathlib.Core.Path.{◌≡◌, refl, sym, ◌∙◌}
 use mathlib.Core.Bool.{Bool, true, false}
 use mathlib.Core.List.{List}
 use lib.ListN.{length, take, replicate, length-take}
@@ -13,11 +12,10 @@ use Rattle.coding.specs.Code.{code_at, source_at}
 use Rattle.coding.specs.Room.{over}
 use Rattle.coding.specs.declared.Cause.{Cause}
 use Rattle.coding.specs.declared.Cause.TheVariants.{ShortBuffer}
-use Rattle.coding.specs.declared.Answer.{Answer}
 use Rattle.coding.specs.declared.Answer.TheVariants.{Count, Refused}
 use Rattle.requirement.specs.Requirement.{Requirement, atom, mark, one, two, depth_of}
 use Rattle.requirement.specs.Reading.{Parsed, whole, unread, parsed, checked_of, checked}
-use Rattle.requirement.specs.Walking.{walked, walk_at}
+use Rattle.requirement.specs.Walking.{walk_at}
 use Rattle.requirement.specs.declared.Kind.{Kind}
 use Rattle.requirement.specs.declared.One.TheVariants.{Not}
 use Rattle.requirement.specs.declared.Two.TheVariants.{And}
@@ -25,8 +23,6 @@ use Rattle.requirement.specs.declared.Phase.TheVariants.{Input}
 use Rattle.requirement.specs.declared.Checked.{Checked}
 use Rattle.requirement.specs.declared.Checked.TheVariants.{Whole, Refused as NotWhole}
 use Rattle.requirement.proofs.Walking.{walk_of_parsed}
-use Rattle.meaning.specs.Meaning.{Holds}
-use Rattle.meaning.specs.Trace.{Trace, endless, WellFormed}
 use Rattle.meaning.specs.Findings.{select}
 use Rattle.meaning.specs.Rows.{judge}
 use Rattle.meaning.proofs.Walk.{start as at_start}
@@ -38,8 +34,8 @@ use Rattle.bits.proofs.Counts.{count_same}
 use Rattle.lasso.specs.Bytes.{positions, mark_b, trace_of, inputs_in}
 use Rattle.lasso.specs.Checking.{check_trace}
 use Rattle.lasso.proofs.WellFormed.{Lasso, accepted_is_well_formed}
-use Rattle.judge.specs.Judging.{Checks, stop, go, checks_of, position_bytes, Accepted}
-use Rattle.judge.specs.Working.{Room, failing, Tallied, Tallies, listed}
+use Rattle.judge.specs.Judging.{stop, go, checks_of, position_bytes, Accepted}
+use Rattle.judge.specs.Working.{Room, Tallied, Tallies, listed}
 use Rattle.judge.specs.declared.Tally.{Tally}
 use Rattle.judge.proofs.Failing.{failing_few}
 use Rattle.judge.proofs.Listing.{select_length}

@@ -1,10 +1,10 @@
 -- The first row of the work as the findings' row: its bits counted and listed, and the verdict read off its first.
 -- Assumes nothing.
-use Prim.Native.Nat.{ℕ, zero, suc, ◌+◌, ◌-◌, ◌*◌, ◌/◌, ◌%◌, ◌<◌, ◌≤◌}
+use Prim.Native.Nat.{ℕ, ◌+◌, ◌-◌, ◌*◌, ◌/◌, ◌%◌, ◌<◌, ◌≤◌}
 use native.Mathlib.Omega.{arith}
 use native.Mathlib.Decide.{dec_le}
-use mathlib.Core.Path.{◌≡◌, refl, sym, ap, ◌∙◌}
-use mathlib.Core.Bool.{Bool, true, false}
+use mathlib.Core.Path.{◌≡◌, sym, ◌∙◌}
+use mathlib.Core.Bool.{Bool, false}
 use mathlib.Core.List.{List}
 use lib.ListN.{length, get_or, take}
 use lib.Seq.{get_or-take, length-take-le}
@@ -12,14 +12,13 @@ use lib.Dec.{leb, eqb}
 use borrow.Author.Tests.{le-leb, lt-leb, eq-eqb, ne_eqb}
 use Rattle.requirement.specs.Walking.{Walked, walked, lost}
 use Rattle.meaning.specs.Findings.{select}
-use Rattle.bits.specs.Bits.{bit_b, bit_at, count_b}
+use Rattle.bits.specs.Bits.{bit_at, count_b}
 use Rattle.bits.specs.Rows.{row_of}
 use Rattle.bits.proofs.Digits.{bit_shr}
 use Rattle.bits.proofs.Bytes.{same_bits}
 use Rattle.meaning.specs.Rows.{judge}
 use Rattle.lasso.specs.Bytes.{positions, trace_of}
-use Rattle.judge.specs.Working.{Same, Room, failing, Rowed, Tallied, Tallies}
-use Rattle.judge.specs.declared.Tally.{Tally}
+use Rattle.judge.specs.Working.{Same, Room, failing, Rowed, Tallies}
 use Rattle.judge.proofs.Rowing.{room_in, room_row}
 use Rattle.judge.proofs.Failing.{count_before}
 use Rattle.judge.proofs.Listing.{select_before}

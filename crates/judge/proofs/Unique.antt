@@ -16,7 +16,7 @@ use Rattle.judge.specs.Judging.{Checks, stop, go, checks_of, Judges}
 use Rattle.judge.specs.declared.Judged.{Judged}
 use Rattle.judge.specs.declared.Judged.TheVariants.{Verdict, Refused as NotJudged}
 use Rattle.judge.proofs.judge.Kinds as judge
-use Rattle.judge.proofs.judge.Reads as judge-reads
+use Rattle.judge.proofs.judge.Reads as judge_reads
 
 -- What says the same is told by the same answer.
 one_verdict : (P : Type 0) (a b : Bool) → (a ≡ true) ↔ P → (b ≡ true) ↔ P → a ≡ b
@@ -36,7 +36,7 @@ module _ (t : Trace) (work list work₁ list₁ work₂ list₂ : List ℕ) wher
   one_judging (go f) (NotJudged cause place) s a b = absurd a
   one_judging (go f) (Verdict h m) (NotJudged cause place) a b = absurd b
 
-pub judging_unique : (κs : Lfts 4) (r t : Judged) (a : Dens κs judge.ps) (e f : AtExit (ended_of 4 judge.ps judge.r) κs) → judge-reads.Post κs a r e → judge-reads.Post κs a t f
+pub judging_unique : (κs : Lfts 4) (r t : Judged) (a : Dens κs judge.ps) (e f : AtExit (ended_of 4 judge.ps judge.r) κs) → judge_reads.Post κs a r e → judge_reads.Post κs a t f
     → (r ≡ t) × (e.1.1.1.1.0.now ≡ f.1.1.1.1.0.now) × (e.1.1.1.1.1.0.now ≡ f.1.1.1.1.1.0.now)
 judging_unique κs r t a e f =
     let trace = a.1.1.0.now in

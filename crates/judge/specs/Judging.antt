@@ -19,7 +19,7 @@ use Rattle.meaning.specs.Trace.{Trace, endless}
 use Rattle.meaning.specs.Findings.{Findings}
 use Rattle.bits.specs.Bits.{digit}
 use Rattle.bits.specs.Rows.{row_of}
-use Rattle.lasso.specs.Bytes.{positions, trace_of, inputs_in}
+use Rattle.lasso.specs.Bytes.{positions, inputs_in}
 use Rattle.lasso.specs.Checking.{check_trace}
 use Rattle.judge.specs.declared.Judged.{Judged}
 use Rattle.judge.specs.declared.Judged.TheVariants.{Verdict, Refused as NotJudged}

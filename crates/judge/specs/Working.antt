@@ -1,6 +1,6 @@
 -- How the judging works: rows in the work buffer. These definitions serve private functions alone.
 -- Assumes nothing: these are definitions.
-use Rattle.std.specs.Prelude.{ℕ, ◌+◌, ◌-◌, ◌*◌, ◌<◌, ◌≤◌, ◌≡◌, Bool, true, false, not, ◌&&◌, List, [], ◌∷◌, length, get_or, drop, ltb}
+use Rattle.std.specs.Prelude.{ℕ, ◌+◌, ◌-◌, ◌*◌, ◌<◌, ◌≤◌, ◌≡◌, Bool, false, not, ◌&&◌, List, [], ◌∷◌, length, get_or, drop, ltb}
 use Rattle.std.proofs.Math.Bool.{decide}
 use Rattle.std.specs.Int.Bits.{bit_and}
 use Rattle.coding.specs.Number.{pick}
@@ -8,7 +8,7 @@ use Rattle.coding.specs.Room.{over}
 use Rattle.judge.specs.Judging.{position_bytes}
 use Rattle.requirement.specs.Walking.{Walked, walked, lost}
 use Rattle.requirement.specs.declared.Phase.{Phase}
-use Rattle.requirement.specs.declared.Phase.TheVariants.{Input, Exe, Output}
+use Rattle.requirement.specs.declared.Phase.TheVariants.{Input}
 use Rattle.meaning.specs.Phases.{Phase-discrete}
 use Rattle.requirement.specs.declared.Family.{Family}
 use Rattle.requirement.specs.declared.One.{One}

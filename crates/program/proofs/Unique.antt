@@ -10,12 +10,12 @@ use denote.Triple.Clauses.{AtExit}
 use Rattle.report.proofs.Unique.{one_text}
 use Rattle.program.specs.Program.{ReportOn}
 use Rattle.program.specs.declared.Checked.{Checked}
-use Rattle.program.proofs.check_input.Kinds as check-input
-use Rattle.program.proofs.check_input.Reads as check-input-reads
+use Rattle.program.proofs.check_input.Kinds as check_input
+use Rattle.program.proofs.check_input.Reads as check_input_reads
 
-pub check_input_unique : (κs : Lfts 2) (r t : Checked) (a : Dens κs check-input.ps)
-    (e f : AtExit (ended_of 2 check-input.ps check-input.r) κs) →
-    check-input-reads.Post κs a r e → check-input-reads.Post κs a t f →
+pub check_input_unique : (κs : Lfts 2) (r t : Checked) (a : Dens κs check_input.ps)
+    (e f : AtExit (ended_of 2 check_input.ps check_input.r) κs) →
+    check_input_reads.Post κs a r e → check_input_reads.Post κs a t f →
     take r.read e.0.now ≡ take t.read f.0.now →
     (r.length ≡ t.length) × (e.1.0.now ≡ f.1.0.now)
 unfolding ReportOn

@@ -1,9 +1,8 @@
 -- The text of the bench case, by computing.
 -- Assumes nothing.
-use Prim.Native.Nat.{ℕ}
 use mathlib.Core.Path.{◌≡◌, refl}
 use mathlib.Core.Bool.{true}
-use mathlib.Core.List.{List, [], ◌∷◌}
+use mathlib.Core.List.{[], ◌∷◌}
 use Rattle.coding.specs.Number.{number_at}
 use Rattle.coding.specs.Code.{code_at}
 use Rattle.requirement.specs.Reading.{atom_of, tree_of, parsed}
@@ -12,7 +11,6 @@ use Rattle.requirement.specs.Limits.{tag_in}
 use Rattle.requirement.specs.Tags.{tag_of}
 use Rattle.requirement.specs.declared.Kind.TheVariants.{Untranslated}
 use Rattle.judge.specs.Judging.{go, checks_of}
-use Rattle.run.specs.Trace.{trace_bytes, numbers_in}
 use Rattle.lasso.specs.Bytes.{mark_b}
 use Rattle.lasso.specs.Checking.{length_ok, may_follow, steps_from, output_from, check_by}
 use Rattle.bits.specs.Bits.{count_b}

@@ -24,7 +24,7 @@ use Rattle.report.specs.Reporting.{work_room, list_room, Answered, OfJudging, Of
 use Rattle.report.specs.declared.framing.Framed.{Framed}
 use Rattle.report.specs.declared.framing.Framed.TheVariants.{Blocks, Faulty}
 use Rattle.report.proofs.report.Kinds as report
-use Rattle.report.proofs.report.Reads as report-reads
+use Rattle.report.proofs.report.Reads as report_reads
 
 -- What says the same is told by the same answer.
 one_verdict : (P : Type 0) (a b : Bool) → (a ≡ true) ↔ P → (b ≡ true) ↔ P → a ≡ b
@@ -58,7 +58,7 @@ module _ (x y : List ℕ) where
   pub one_text : (s : List ℕ) → Reports s (framing_of s) x → Reports s (framing_of s) y → x ≡ y
   one_text s p q = one_framed s (framing_of s) p q
 
-pub report_unique : (κs : Lfts 2) (r t : ℕ) (a : Dens κs report.ps) (e f : AtExit (ended_of 2 report.ps report.r) κs) → report-reads.Post κs a r e → report-reads.Post κs a t f
+pub report_unique : (κs : Lfts 2) (r t : ℕ) (a : Dens κs report.ps) (e f : AtExit (ended_of 2 report.ps report.r) κs) → report_reads.Post κs a r e → report_reads.Post κs a t f
     → (r ≡ t) × (e.1.0.now ≡ f.1.0.now)
 report_unique κs r t a e f p q =
     let same : p.text ≡ q.text = one_text p.text q.text a.0.now p.true_of q.true_of in

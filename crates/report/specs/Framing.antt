@@ -3,7 +3,6 @@
 -- Assumes nothing: these are definitions.
 use Rattle.std.specs.Prelude.{ℕ, ◌+◌, ◌-◌, List, length, take, drop, ltb}
 use Rattle.coding.specs.Number.{pick, number_at}
-use Rattle.coding.specs.declared.Number.{Number}
 use Rattle.coding.specs.declared.Number.TheVariants.{Value, Fault}
 use Rattle.coding.specs.declared.Cause.TheVariants.{CutShort, LeftOver}
 use Rattle.report.specs.declared.framing.Block.{Block}

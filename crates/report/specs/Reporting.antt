@@ -2,7 +2,6 @@
 -- Assumes nothing: these are definitions.
 use Rattle.std.specs.Prelude.{ℕ, ◌≡◌, ◌↔◌, Bool, true, List}
 use Rattle.coding.specs.Refusal.{number_of}
-use Rattle.coding.specs.declared.Cause.{Cause}
 use Rattle.requirement.specs.Requirement.{Requirement}
 use Rattle.requirement.specs.declared.Kind.TheVariants.{Untranslated}
 use Rattle.meaning.specs.Meaning.{Holds}

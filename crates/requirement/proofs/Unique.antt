@@ -11,59 +11,59 @@ use Rattle.requirement.specs.declared.Tag.{Tag}
 use Rattle.requirement.specs.declared.NodeRead.{NodeRead}
 use Rattle.requirement.specs.declared.Checked.{Checked}
 use Rattle.requirement.proofs.tag_of.Kinds as tag_of
-use Rattle.requirement.proofs.tag_of.Reads as tag-of-reads
-use Rattle.requirement.proofs.node_limit.Kinds as node-limit
-use Rattle.requirement.proofs.node_limit.Reads as node-limit-reads
-use Rattle.requirement.proofs.depth_limit.Kinds as depth-limit
-use Rattle.requirement.proofs.depth_limit.Reads as depth-limit-reads
-use Rattle.requirement.proofs.highest_tag.Kinds as highest-tag
-use Rattle.requirement.proofs.highest_tag.Reads as highest-tag-reads
+use Rattle.requirement.proofs.tag_of.Reads as tag_of_reads
+use Rattle.requirement.proofs.node_limit.Kinds as node_limit
+use Rattle.requirement.proofs.node_limit.Reads as node_limit_reads
+use Rattle.requirement.proofs.depth_limit.Kinds as depth_limit
+use Rattle.requirement.proofs.depth_limit.Reads as depth_limit_reads
+use Rattle.requirement.proofs.highest_tag.Kinds as highest_tag
+use Rattle.requirement.proofs.highest_tag.Reads as highest_tag_reads
 use Rattle.requirement.proofs.tag_in.Kinds as tag_in
-use Rattle.requirement.proofs.tag_in.Reads as tag-in-reads
-use Rattle.requirement.proofs.read_node.Kinds as read-node
-use Rattle.requirement.proofs.read_node.Reads as read-node-reads
+use Rattle.requirement.proofs.tag_in.Reads as tag_in_reads
+use Rattle.requirement.proofs.read_node.Kinds as read_node
+use Rattle.requirement.proofs.read_node.Reads as read_node_reads
 use Rattle.requirement.proofs.check.Kinds as check
-use Rattle.requirement.proofs.check.Reads as check-reads
+use Rattle.requirement.proofs.check.Reads as check_reads
 use Rattle.requirement.proofs.read.Kinds as read
-use Rattle.requirement.proofs.read.Reads as read-reads
+use Rattle.requirement.proofs.read.Reads as read_reads
 use Rattle.requirement.proofs.write.Kinds as write
-use Rattle.requirement.proofs.write.Reads as write-reads
+use Rattle.requirement.proofs.write.Reads as write_reads
 
 module _ (κs : Lfts 0) where
   pub tag_of_unique : (r t : Tag) (a : Dens κs tag_of.ps) (e f : AtExit (ended_of 0 tag_of.ps tag_of.r) κs) →
-      tag-of-reads.Post κs a r e → tag-of-reads.Post κs a t f → r ≡ t
+      tag_of_reads.Post κs a r e → tag_of_reads.Post κs a t f → r ≡ t
   tag_of_unique r t a e f = one_answer
 
-  pub node_limit_unique : (r t : ℕ) (a : Dens κs node-limit.ps) (e f : AtExit (ended_of 0 node-limit.ps node-limit.r) κs) →
-      node-limit-reads.Post κs a r e → node-limit-reads.Post κs a t f → r ≡ t
+  pub node_limit_unique : (r t : ℕ) (a : Dens κs node_limit.ps) (e f : AtExit (ended_of 0 node_limit.ps node_limit.r) κs) →
+      node_limit_reads.Post κs a r e → node_limit_reads.Post κs a t f → r ≡ t
   node_limit_unique r t a e f = one_answer
 
-  pub depth_limit_unique : (r t : ℕ) (a : Dens κs depth-limit.ps) (e f : AtExit (ended_of 0 depth-limit.ps depth-limit.r) κs) →
-      depth-limit-reads.Post κs a r e → depth-limit-reads.Post κs a t f → r ≡ t
+  pub depth_limit_unique : (r t : ℕ) (a : Dens κs depth_limit.ps) (e f : AtExit (ended_of 0 depth_limit.ps depth_limit.r) κs) →
+      depth_limit_reads.Post κs a r e → depth_limit_reads.Post κs a t f → r ≡ t
   depth_limit_unique r t a e f = one_answer
 
-  pub highest_tag_unique : (r t : ℕ) (a : Dens κs highest-tag.ps) (e f : AtExit (ended_of 0 highest-tag.ps highest-tag.r) κs) →
-      highest-tag-reads.Post κs a r e → highest-tag-reads.Post κs a t f → r ≡ t
+  pub highest_tag_unique : (r t : ℕ) (a : Dens κs highest_tag.ps) (e f : AtExit (ended_of 0 highest_tag.ps highest_tag.r) κs) →
+      highest_tag_reads.Post κs a r e → highest_tag_reads.Post κs a t f → r ≡ t
   highest_tag_unique r t a e f = one_answer
 
   pub tag_in_unique : (r t : Tag) (a : Dens κs tag_in.ps) (e f : AtExit (ended_of 0 tag_in.ps tag_in.r) κs) →
-      tag-in-reads.Post κs a r e → tag-in-reads.Post κs a t f → r ≡ t
+      tag_in_reads.Post κs a r e → tag_in_reads.Post κs a t f → r ≡ t
   tag_in_unique r t a e f = one_answer
 
 module _ (κs : Lfts 1) (r t : NodeRead) where
-  pub read_node_unique : (a : Dens κs read-node.ps) (e f : AtExit (ended_of 1 read-node.ps read-node.r) κs) →
-      read-node-reads.Post κs a r e → read-node-reads.Post κs a t f → r ≡ t
+  pub read_node_unique : (a : Dens κs read_node.ps) (e f : AtExit (ended_of 1 read_node.ps read_node.r) κs) →
+      read_node_reads.Post κs a r e → read_node_reads.Post κs a t f → r ≡ t
   read_node_unique a e f = one_answer
 
 module _ (κs : Lfts 2) where
   pub check_unique : (r t : Checked) (a : Dens κs check.ps) (e f : AtExit (ended_of 2 check.ps check.r) κs) →
-      check-reads.Post κs a r e → check-reads.Post κs a t f → r ≡ t
+      check_reads.Post κs a r e → check_reads.Post κs a t f → r ≡ t
   check_unique r t a e f = one_answer
 
   pub read_unique : (r t : Answer) (a : Dens κs read.ps) (e f : AtExit (ended_of 2 read.ps read.r) κs) →
-      read-reads.Post κs a r e → read-reads.Post κs a t f → (r ≡ t) × (e.1.1.0.now ≡ f.1.1.0.now)
+      read_reads.Post κs a r e → read_reads.Post κs a t f → (r ≡ t) × (e.1.1.0.now ≡ f.1.1.0.now)
   read_unique r t a e f = one_storing _ _
 
   pub write_unique : (r t : Answer) (a : Dens κs write.ps) (e f : AtExit (ended_of 2 write.ps write.r) κs) →
-      write-reads.Post κs a r e → write-reads.Post κs a t f → (r ≡ t) × (e.1.1.0.now ≡ f.1.1.0.now)
+      write_reads.Post κs a r e → write_reads.Post κs a t f → (r ≡ t) × (e.1.1.0.now ≡ f.1.1.0.now)
   write_unique r t a e f = one_storing _ _

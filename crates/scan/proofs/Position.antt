@@ -2,23 +2,19 @@
 -- Assumes nothing.
 use Prim.Native.Nat.{ℕ, zero, suc, ◌+◌, ◌-◌, ◌*◌, ◌^◌, ◌<◌, ◌≤◌}
 use mathlib.Core.Path.{◌≡◌, refl, sym, ap}
-use mathlib.Core.Logic.{⊎_elim}
 use mathlib.Core.Bool.{Bool}
 use mathlib.Core.List.{List, [], ◌∷◌}
-use native.Mathlib.Nat.{pow-suc, eq-or-lt_of_le}
+use native.Mathlib.Nat.{pow-suc}
 use native.Mathlib.Omega.{arith}
 use native.Mathlib.Numerals.{add-one, add-two, add-three, add-four}
 use lib.ListN.{length, get_or, set}
 use lib.Pow.{pow_mono}
-use borrow.Author.Tests.{le-ltb}
 use Rattle.coding.specs.Room.{over}
-use Rattle.lookups.specs.Places.{tests_of}
 use Rattle.requirement.specs.declared.Phase.{Phase}
 use Rattle.controller.specs.declared.Controller.{Controller}
 use Rattle.bits.specs.Bits.{digit}
 use Rattle.bits.proofs.Digits.{digit_lt}
-use Rattle.scan.specs.Guards.{atom_of}
-use Rattle.scan.specs.Position.{packed, atom_byte, atom_bytes, state_bytes}
+use Rattle.scan.specs.Position.{packed, atom_bytes, state_bytes}
 
 pub bytes_length : (T : List ℕ) (phase : Phase) (c : Controller) → length (state_bytes T phase c) ≡ 5
 unfolding state_bytes atom_bytes

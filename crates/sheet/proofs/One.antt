@@ -9,15 +9,15 @@ use denote.Ref.{Bor}
 use denote.Triple.Clauses.{AtExit}
 use Rattle.sheet.specs.declared.Found.{Found}
 use Rattle.sheet.proofs.find.Kinds as find
-use Rattle.sheet.proofs.find.Reads as find-reads
+use Rattle.sheet.proofs.find.Reads as find_reads
 use Rattle.sheet.proofs.body.Kinds as body
-use Rattle.sheet.proofs.body.Reads as body-Reads
+use Rattle.sheet.proofs.body.Reads as body_reads
 
 module _ (κs : Lfts 2) where
-  pub one_found : (r t : Found) (a : Dens κs find.ps) (e f : AtExit (ended_of 2 find.ps find.r) κs) → find-reads.Post κs a r e → find-reads.Post κs a t f → r ≡ t
+  pub one_found : (r t : Found) (a : Dens κs find.ps) (e f : AtExit (ended_of 2 find.ps find.r) κs) → find_reads.Post κs a r e → find_reads.Post κs a t f → r ≡ t
   one_found r t a e f p q = p ∙ sym q
 
   -- the bytes, and where in memory they stand
-  pub one_body : (r t : Bor (List ℕ)) (a : Dens κs body.ps) (e f : AtExit (ended_of 2 body.ps body.r) κs) → body-Reads.Post κs a r e → body-Reads.Post κs a t f →
+  pub one_body : (r t : Bor (List ℕ)) (a : Dens κs body.ps) (e f : AtExit (ended_of 2 body.ps body.r) κs) → body_reads.Post κs a r e → body_reads.Post κs a t f →
       (r.now ≡ t.now) × (r.ref_ptr ≡ t.ref_ptr)
   one_body r t a e f p q = (p.0 ∙ sym q.0, λ i. ((p.1.0 ∙ sym q.1.0) i, (p.1.1 ∙ sym q.1.1) i))

@@ -7,27 +7,27 @@ use denote.Triple.Clauses.{AtExit}
 use Rattle.coding.specs.declared.Answer.{Answer}
 use Rattle.coding.proofs.Unique.{one_storing}
 use Rattle.table.proofs.read_table.Kinds as read_table
-use Rattle.table.proofs.read_table.Reads as read-table-reads
-use Rattle.table.proofs.write_table.Kinds as write-table
-use Rattle.table.proofs.write_table.Reads as write-table-reads
-use Rattle.table.proofs.read_inputs.Kinds as read-inputs
-use Rattle.table.proofs.read_inputs.Reads as read-inputs-reads
-use Rattle.table.proofs.write_inputs.Kinds as write-inputs
-use Rattle.table.proofs.write_inputs.Reads as write-inputs-reads
+use Rattle.table.proofs.read_table.Reads as read_table_reads
+use Rattle.table.proofs.write_table.Kinds as write_table
+use Rattle.table.proofs.write_table.Reads as write_table_reads
+use Rattle.table.proofs.read_inputs.Kinds as read_inputs
+use Rattle.table.proofs.read_inputs.Reads as read_inputs_reads
+use Rattle.table.proofs.write_inputs.Kinds as write_inputs
+use Rattle.table.proofs.write_inputs.Reads as write_inputs_reads
 
 module _ (κs : Lfts 2) (r t : Answer) where
   pub read_table_unique : (a : Dens κs read_table.ps) (e f : AtExit (ended_of 2 read_table.ps read_table.r) κs) →
-      read-table-reads.Post κs a r e → read-table-reads.Post κs a t f → (r ≡ t) × (e.1.0.now ≡ f.1.0.now)
+      read_table_reads.Post κs a r e → read_table_reads.Post κs a t f → (r ≡ t) × (e.1.0.now ≡ f.1.0.now)
   read_table_unique a e f = one_storing _ _
 
-  pub write_table_unique : (a : Dens κs write-table.ps) (e f : AtExit (ended_of 2 write-table.ps write-table.r) κs) →
-      write-table-reads.Post κs a r e → write-table-reads.Post κs a t f → (r ≡ t) × (e.1.0.now ≡ f.1.0.now)
+  pub write_table_unique : (a : Dens κs write_table.ps) (e f : AtExit (ended_of 2 write_table.ps write_table.r) κs) →
+      write_table_reads.Post κs a r e → write_table_reads.Post κs a t f → (r ≡ t) × (e.1.0.now ≡ f.1.0.now)
   write_table_unique a e f = one_storing _ _
 
-  pub read_inputs_unique : (a : Dens κs read-inputs.ps) (e f : AtExit (ended_of 2 read-inputs.ps read-inputs.r) κs) →
-      read-inputs-reads.Post κs a r e → read-inputs-reads.Post κs a t f → (r ≡ t) × (e.1.1.0.now ≡ f.1.1.0.now)
+  pub read_inputs_unique : (a : Dens κs read_inputs.ps) (e f : AtExit (ended_of 2 read_inputs.ps read_inputs.r) κs) →
+      read_inputs_reads.Post κs a r e → read_inputs_reads.Post κs a t f → (r ≡ t) × (e.1.1.0.now ≡ f.1.1.0.now)
   read_inputs_unique a e f = one_storing _ _
 
-  pub write_inputs_unique : (a : Dens κs write-inputs.ps) (e f : AtExit (ended_of 2 write-inputs.ps write-inputs.r) κs) →
-      write-inputs-reads.Post κs a r e → write-inputs-reads.Post κs a t f → (r ≡ t) × (e.1.1.0.now ≡ f.1.1.0.now)
+  pub write_inputs_unique : (a : Dens κs write_inputs.ps) (e f : AtExit (ended_of 2 write_inputs.ps write_inputs.r) κs) →
+      write_inputs_reads.Post κs a r e → write_inputs_reads.Post κs a t f → (r ≡ t) × (e.1.1.0.now ≡ f.1.1.0.now)
   write_inputs_unique a e f = one_storing _ _

@@ -197,12 +197,12 @@ impl Bench {
         self.print(task, times);
     }
 
-    /// The program itself, that `rt check scancheck` writes, against a program of the peers. Starting a process is in both.
+    /// The program itself, that `rt run` in crates/scancheck writes, against a program of the peers. Starting a process is in both.
     fn program(&self, task: &str, input: &[u8]) {
         if !self.wants(task) {
             return;
         }
-        let proved = Path::new(env!("CARGO_MANIFEST_DIR")).join("../../target/bin/scancheck");
+        let proved = Path::new(env!("CARGO_MANIFEST_DIR")).join("../../crates/scancheck/out/scancheck");
         let peer = std::env::current_exe().unwrap().with_file_name("peer");
         let text = printed(&proved, input);
         assert_eq!(text, printed(&peer, input), "{task}");

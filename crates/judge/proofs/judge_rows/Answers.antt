@@ -14,11 +14,10 @@ bounds-work-0 c =
     omega (arith, room_some c.requires.0 c.requires.1)
 
 pub keep_failing-requires : goal.keep_failing-requires
-keep_failing-requires c =
-    (
-      as_long (room_one c.requires.0 c.requires.1) c.judge_node.auto.work,
-      c.fill_marks.ensures,
-    )
+keep_failing-requires c = (
+  as_long (room_one c.requires.0 c.requires.1) c.judge_node.auto.work,
+  c.fill_marks.ensures,
+)
 
 pub slice_bounds-count_row-end : goal.slice_bounds-count_row-end
 slice_bounds-count_row-end c =

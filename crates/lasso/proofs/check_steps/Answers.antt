@@ -1,9 +1,7 @@
 use native.Mathlib.Nat.{sub-zero}
 use Rattle.lasso.proofs.Positions.{after_inside, next_phase}
 use Rattle.lasso.proofs.Steps.{steps_on, steps_stop, steps_end}
-use Prim.Native.Nat.{◌-◌}
 use mathlib.Core.Path.{◌∙◌}
-use Rattle.lasso.specs.Checking.{may_follow}
 use Rattle.lasso.proofs.check_steps.Goals as goal
 
 pub loop-i-init : goal.loop-i-init
@@ -14,14 +12,13 @@ phase_in-next-requires c =
     rw c.after.ensures (after_inside _ c.requires)
 
 pub loop-i-preserved : goal.loop-i-preserved
-loop-i-preserved c =
-    (
-      steps_on _ _ _ _ _ c.loop-i-test.true _ _ _ _ (c.loop-i.invariant.1 c.loop-i-test.true)
-          c.after.ensures c.phase_in-next.ensures c.may_follow.ensures c.if-may_follow.true
-          ∙ c.loop-i.invariant.0,
-      next_phase c.args.trace.now _ c.args.start _ _ c.after.ensures
-          c.phase_in-next.ensures,
-    )
+loop-i-preserved c = (
+  steps_on _ _ _ _ _ c.loop-i-test.true _ _ _ _ (c.loop-i.invariant.1 c.loop-i-test.true)
+      c.after.ensures c.phase_in-next.ensures c.may_follow.ensures c.if-may_follow.true
+      ∙ c.loop-i.invariant.0,
+  next_phase c.args.trace.now _ c.args.start _ _ c.after.ensures
+      c.phase_in-next.ensures,
+)
 
 pub returns-else-may_follow : goal.returns-else-may_follow
 returns-else-may_follow c =

@@ -1,7 +1,6 @@
 use native.Mathlib.Nat.{le_antisymm}
 use native.Mathlib.Omega.{arith}
 use Rattle.lasso.proofs.Positions.{one_more, no_more}
-use Prim.Native.Nat.{◌-◌}
 use mathlib.Core.Path.{refl}
 use Rattle.bits.specs.Bits.{count_b}
 use Rattle.lasso.proofs.count_inputs.Goals as goal
@@ -14,10 +13,10 @@ loop-i-init c = (refl, omega arith, omega arith)
 pub loop-i-preserved : goal.loop-i-preserved
 loop-i-preserved c =
     elim c.if-phase_in-eq0.branch [
-        then-phase_in-eq0 w ↦
-            (rw w.count-is (one_more _ _ _ _ c.phase_in.ensures c.loop-i.invariant.0 w.if-phase_in-eq0.true), omega arith, omega arith)
+      | then-phase_in-eq0 w ↦
+          (rw w.count-is (one_more _ _ _ _ c.phase_in.ensures c.loop-i.invariant.0 w.if-phase_in-eq0.true), omega arith, omega arith)
       | else-phase_in-eq0 w ↦
-            (rw w.count-is (no_more _ _ _ _ c.phase_in.ensures c.loop-i.invariant.0 w.if-phase_in-eq0.false), omega arith, omega arith)
+          (rw w.count-is (no_more _ _ _ _ c.phase_in.ensures c.loop-i.invariant.0 w.if-phase_in-eq0.false), omega arith, omega arith)
     ]
 
 pub returns : goal.returns

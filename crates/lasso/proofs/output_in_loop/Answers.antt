@@ -1,5 +1,4 @@
 use Rattle.lasso.proofs.Steps.{output_here, output_on, output_end}
-use Prim.Native.Nat.{◌-◌}
 use mathlib.Core.Path.{◌∙◌}
 use Rattle.lasso.proofs.output_in_loop.Goals as goal
 

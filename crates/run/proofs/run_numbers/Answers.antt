@@ -7,9 +7,8 @@ clear_rest-requires c =
     c.walk-ran.result c.walk-ran.ensures.1
 
 pub returns : goal.returns
-returns c =
-    (
-      c.walk-ran.ensures.0,
-      left_over c.args.table.now c.args.inputs.now c.args.trace.now c.walk-ran.new.trace
-          c.walk-ran.result _ c.requires c.walk-ran.ensures.1 c.clear_rest.ensures,
-    )
+returns c = (
+  c.walk-ran.ensures.0,
+  left_over c.args.table.now c.args.inputs.now c.args.trace.now c.walk-ran.new.trace
+      c.walk-ran.result _ c.requires c.walk-ran.ensures.1 c.clear_rest.ensures,
+)

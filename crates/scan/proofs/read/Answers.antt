@@ -1,4 +1,3 @@
-use Prim.Native.Nat.{◌-◌}
 use mathlib.Core.Path.{◌≡◌, refl, ◌∙◌}
 use mathlib.Core.Logic.{inl, inr}
 use native.Mathlib.Nat.{sub-zero}
@@ -19,7 +18,7 @@ pub loop-k-preserved : goal.loop-k-preserved
 loop-k-preserved c =
     let n = c.loop-k.invariant.2 in
     let q = stored _ _ _ _ n (λ w. w) (elim c.if-at-lt32.branch [
-        then-at-lt32 w ↦ inl (w.if-at-lt32.true, w.state-is)
+      | then-at-lt32 w ↦ inl (w.if-at-lt32.true, w.state-is)
       | else-at-lt32 w ↦ inr (w.if-at-lt32.false, w.state-is)
     ]) in (
       taken_again _ _ _ _ _ _ c.loop-k-test.true (rw (q, c.reading-value.ensures) refl) c.loop-k.invariant.0,

@@ -1,4 +1,3 @@
-use Prim.Native.Nat.{◌-◌}
 use mathlib.Core.Path.{◌≡◌, refl, ◌∙◌}
 use mathlib.Core.Logic.{inl, inr}
 use native.Mathlib.Nat.{sub-zero}
@@ -17,7 +16,7 @@ pub loop-k-preserved : goal.loop-k-preserved
 loop-k-preserved c =
     let n : length c.loop-k.state.variables ≡ 32 = search rules in
     let q = stored _ _ _ _ n (λ w. w) (elim c.if-at-lt32.branch [
-        then-at-lt32 w ↦ inl (w.if-at-lt32.true, w.state-is)
+      | then-at-lt32 w ↦ inl (w.if-at-lt32.true, w.state-is)
       | else-at-lt32 w ↦ inr (w.if-at-lt32.false, w.state-is)
     ]) in (
       written_again _ _ _ _ _ c.loop-k-test.true

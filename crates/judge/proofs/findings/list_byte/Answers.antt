@@ -1,4 +1,3 @@
-use Prim.Native.Nat.{◌-◌}
 use native.Mathlib.Omega.{arith}
 use mathlib.Core.Path.{◌≡◌, sym, ◌∙◌}
 use Rattle.judge.proofs.Listing.{byte_none, byte_skip, byte_put}
@@ -13,8 +12,8 @@ loop-k-preserved c =
     let h = c.loop-k.invariant in
     let e = sym c.bit.ensures in
     elim c.if-bit.branch [
-        then-bit w ↦
-            rw (w.at-is, w.list-is) (byte_put h (omega arith) (e ∙ w.if-bit.true) _ _ w.put_position-at.ensures)
+      | then-bit w ↦
+          rw (w.at-is, w.list-is) (byte_put h (omega arith) (e ∙ w.if-bit.true) _ _ w.put_position-at.ensures)
       | else-bit w ↦ rw (w.at-is, w.list-is) (byte_skip h (omega arith) (e ∙ w.if-bit.false))
     ]
 

@@ -1,4 +1,4 @@
-use Prim.Native.Nat.{◌+◌, ◌-◌, ◌*◌}
+use Prim.Native.Nat.{◌+◌, ◌*◌}
 use native.Mathlib.Omega.{arith}
 use mathlib.Core.Path.{◌≡◌}
 use Rattle.judge.proofs.Listing.{listing_none, listing_zero, listing_done}
@@ -17,9 +17,9 @@ loop-i-preserved c =
     let l = c.loop-i in
     let q : 8 * (l.i + 1) ≡ 8 * l.i + 8 = omega arith in
     elim c.if-row-i-ne0.branch [
-        then-row-i-ne0 w ↦ rw (w.at-is, w.list-is, q) (w.list_byte-at.ensures _ _ (omega arith) l.invariant)
+      | then-row-i-ne0 w ↦ rw (w.at-is, w.list-is, q) (w.list_byte-at.ensures _ _ (omega arith) l.invariant)
       | else-row-i-ne0 w ↦
-            rw (w.at-is, w.list-is, q) (listing_zero _ _ l.invariant (omega arith) w.if-row-i-ne0.false)
+          rw (w.at-is, w.list-is, q) (listing_zero _ _ l.invariant (omega arith) w.if-row-i-ne0.false)
     ]
 
 pub shape_of-list : goal.shape_of-list

@@ -10,11 +10,10 @@ slice_bounds-mask_row-start c =
     place_inside c.requires.1 c.requires.0.few c.args.phase c.mark_place-from.ensures.0
 
 pub mask_row-requires : goal.mask_row-requires
-mask_row-requires c =
-    (
-      mark_fits c.requires.1 c.requires.0.few c.args.phase c.mark_place-from.ensures.0,
-      omega (arith, c.requires.0.room),
-    )
+mask_row-requires c = (
+  mark_fits c.requires.1 c.requires.0.few c.args.phase c.mark_place-from.ensures.0,
+  omega (arith, c.requires.0.room),
+)
 
 pub returns : goal.returns
 returns c =

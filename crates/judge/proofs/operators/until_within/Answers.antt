@@ -14,12 +14,11 @@ keep-requires c =
     (first_room c.requires.0, c.requires.1)
 
 pub keep_second-requires : goal.keep_second-requires
-keep_second-requires c =
-    (
-      as_long c.requires.0
-          (first_length c.requires.0 c.keep.new.work c.keep.auto.work),
-      c.requires.1,
-    )
+keep_second-requires c = (
+  as_long c.requires.0
+      (first_length c.requires.0 c.keep.new.work c.keep.auto.work),
+  c.requires.1,
+)
 
 pub until-requires : goal.until-requires
 until-requires c =

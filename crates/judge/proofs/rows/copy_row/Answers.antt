@@ -1,4 +1,3 @@
-use Prim.Native.Nat.{◌-◌}
 use native.Mathlib.Omega.{arith}
 use Rattle.bits.proofs.Bytes.{packs_byte, made_none, made_more}
 use Rattle.judge.proofs.rows.copy_row.Goals as goal

@@ -1,4 +1,3 @@
-use Prim.Native.Nat.{◌-◌}
 use native.Mathlib.Omega.{arith}
 use Rattle.bits.proofs.Bytes.{packs_byte, packs_and, made_none, made_more}
 use Rattle.judge.proofs.rows.mask_row.Goals as goal

@@ -1,5 +1,5 @@
 use mathlib.Core.Bool.{false}
-use Prim.Native.Nat.{◌-◌, ◌≤◌}
+use Prim.Native.Nat.{◌≤◌}
 use Rattle.bits.proofs.Walks.{Carried}
 use Rattle.judge.proofs.rows.walk_back.Given as goal
 

@@ -1,4 +1,4 @@
-use Prim.Native.Nat.{◌-◌, ◌≤◌}
+use Prim.Native.Nat.{◌≤◌}
 use Rattle.bits.proofs.Walks.{Carried, Down}
 use Rattle.judge.proofs.rows.walk_row.Given as goal
 

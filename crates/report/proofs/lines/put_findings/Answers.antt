@@ -1,4 +1,3 @@
-use Prim.Native.Nat.{◌-◌}
 use Rattle.report.proofs.Listing.{list_start, list_step, list_end}
 use Rattle.report.proofs.lines.put_findings.Goals as goal
 

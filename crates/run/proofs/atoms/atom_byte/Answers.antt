@@ -1,4 +1,3 @@
-use Prim.Native.Nat.{◌-◌}
 use mathlib.Core.Path.{◌≡◌, refl}
 use native.Mathlib.Nat.{add-zero}
 use native.Mathlib.Omega.{arith}
@@ -82,12 +81,11 @@ loop-left-smaller c =
     omega (arith, c.loop-left-test.true)
 
 pub loop-left-preserved : goal.loop-left-preserved
-loop-left-preserved c =
-    (
-      rw (c.loop-left.invariant.0, truth_digit, c.asked-atom.ensures)
-          (packed_next _ _ _ c.loop-left-test.true c.loop-left.invariant.1),
-      omega (arith, c.loop-left.invariant.1),
-    )
+loop-left-preserved c = (
+  rw (c.loop-left.invariant.0, truth_digit, c.asked-atom.ensures)
+      (packed_next _ _ _ c.loop-left-test.true c.loop-left.invariant.1),
+  omega (arith, c.loop-left.invariant.1),
+)
 
 pub returns : goal.returns
 returns c = let z : c.loop-left.left ≡ 0 = omega (arith, c.loop-left-test.false) in rw (z, add-zero) at c.loop-left.invariant.0

@@ -1,4 +1,3 @@
-use Prim.Native.Nat.{◌-◌}
 use native.Mathlib.Omega.{arith}
 use Rattle.run.proofs.LaidOut.{none_laid, next_laid, all_laid}
 use Rattle.run.proofs.atoms.lay_out.Goals as goal

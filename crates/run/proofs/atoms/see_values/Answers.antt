@@ -1,4 +1,3 @@
-use Prim.Native.Nat.{◌-◌}
 use native.Mathlib.Omega.{arith}
 use Rattle.run.proofs.Seen.{no_value_lem, value_more, all_values}
 use Rattle.std.proofs.Common.{rules}

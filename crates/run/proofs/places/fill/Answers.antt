@@ -1,4 +1,3 @@
-use Prim.Native.Nat.{◌-◌}
 use native.Mathlib.Omega.{arith}
 use Rattle.run.proofs.Filled.{none_filled, one_filled, all_filled}
 use Rattle.run.proofs.places.fill.Goals as goal

@@ -1,4 +1,3 @@
-use Prim.Native.Nat.{◌-◌}
 use native.Mathlib.Omega.{arith}
 use Rattle.run.proofs.Clearing.{clear_again, clear_done}
 use Rattle.run.proofs.route.clear_from.Goals as goal

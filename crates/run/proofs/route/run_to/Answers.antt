@@ -1,4 +1,3 @@
-use Prim.Native.Nat.{◌-◌}
 use mathlib.Core.Path.{sym, ◌∙◌}
 use native.Mathlib.Omega.{arith}
 use Rattle.run.proofs.Onward.{still, begin, finish, stopped, spent, state_put, goes_on}
@@ -13,11 +12,10 @@ loop-atoms-init c =
     (begin _ _ _ _ _ _ c.requires.2, c.atoms_of-atoms.ensures _ c.requires.1)
 
 pub make_move-moved-requires : goal.make_move-moved-requires
-make_move-moved-requires c =
-    (
-      c.requires.0,
-      still c.loop-atoms.m c.args.k (sym c.before-in-loop-atoms.ensures ∙ c.loop-atoms-test.true) (omega arith),
-    )
+make_move-moved-requires c = (
+  c.requires.0,
+  still c.loop-atoms.m c.args.k (sym c.before-in-loop-atoms.ensures ∙ c.loop-atoms-test.true) (omega arith),
+)
 
 pub shape_of-trace-in-Stopped : goal.shape_of-trace-in-Stopped
 shape_of-trace-in-Stopped c =
@@ -56,13 +54,12 @@ loop-atoms-smaller c =
     omega (arith, c.loop-atoms.invariant.0.high, c.if-n-ge-LAST_STATE.false)
 
 pub loop-atoms-preserved : goal.loop-atoms-preserved
-loop-atoms-preserved c =
-    (
-      goes_on _ _ _ _ _ _ _ _ _ c.loop-atoms.invariant.0 (sym c.before-in-loop-atoms.ensures ∙ c.loop-atoms-test.true) _
-          c.make_move-moved.ensures c.in-On.is c.if-n-ge-LAST_STATE.false _
-          (state_put _ c.loop-atoms.m _ _ _ _ c.loop-atoms.invariant.1 c.leave.ensures),
-      c.atoms_after-then.ensures _ c.requires.1 c.loop-atoms.invariant.1,
-    )
+loop-atoms-preserved c = (
+  goes_on _ _ _ _ _ _ _ _ _ c.loop-atoms.invariant.0 (sym c.before-in-loop-atoms.ensures ∙ c.loop-atoms-test.true) _
+      c.make_move-moved.ensures c.in-On.is c.if-n-ge-LAST_STATE.false _
+      (state_put _ c.loop-atoms.m _ _ _ _ c.loop-atoms.invariant.1 c.leave.ensures),
+  c.atoms_after-then.ensures _ c.requires.1 c.loop-atoms.invariant.1,
+)
 
 pub shape_of-trace : goal.shape_of-trace
 shape_of-trace c =

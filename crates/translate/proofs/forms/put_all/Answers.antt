@@ -1,4 +1,3 @@
-use Prim.Native.Nat.{◌-◌}
 use native.Mathlib.Omega.{arith}
 use Rattle.translate.proofs.Putting.{put_none, put_length, one_more, all_put}
 use Rattle.translate.proofs.forms.put_all.Goals as goal
