@@ -1,10 +1,13 @@
-// scancheck as one function: standard input in, the report on it out to standard output. A program over it only makes
-// the two buffers.
+// scancheck as one function: an input in, the report on it out. A program over it only makes the two buffers, and lends
+// them with standard input and standard output.
 #![tactic(auto)]
 
 ghost use Rattle.std.specs.Prelude.{◌≤◌, length, take};
+ghost use Rattle.std.specs.Io.KnownBytes.{Consumes};
 ghost use Rattle.report.specs.Printing.{Prints};
-ghost use Rattle.program.specs.Program.{ReportOn, ChecksInput};
+ghost use Rattle.program.specs.Program.{ReportOn, ChecksInput, WritesFront};
+
+use std::io::{Read, Write};
 
 // One byte more than an input may have, so that a longer one is seen to be too long.
 pub const INPUT_ROOM: usize = 60001;
@@ -12,16 +15,28 @@ pub const INPUT_ROOM: usize = 60001;
 // No text is longer.
 pub const OUTPUT_ROOM: usize = 100000;
 
-const STANDARD_INPUT: i32 = 0;
-
-const STANDARD_OUTPUT: i32 = 1;
-
 // How many bytes were read, how many the text has, and whether all of it was written.
 #[derive(Clone, Copy)]
 pub struct Checked {
     pub read: usize,
     pub length: usize,
     pub written: bool,
+}
+
+// Reads until the buffer is full, the input ends or a read fails, and answers how many bytes stand at its front.
+fn read_full<R: Read>(reader: &mut R, input: &mut [u8]) -> usize
+    ensures fits { result ≤ length input.new }
+    ensures reads { Consumes (R.remaining reader.old) (R.remaining reader.new) (take result input.new) }
+{
+    let mut done = 0;
+    while done < input.len() {
+        match reader.read(&mut input[done..]) {
+            Ok(0) => return done,
+            Ok(n) => done += n,
+            Err(_) => return done,
+        }
+    }
+    done
 }
 
 // Reports on the first `read` bytes of `input`, into `output`.
@@ -32,24 +47,57 @@ fn report_front(input: &[u8], read: usize, output: &mut [u8]) -> usize
     report::report(&input[0..read], output)
 }
 
-// Writes the first bytes of a buffer to standard output: the one line that hands anything to the operating system. No
-// promise can say what is written; but what this function relies on, and the prover checks where it is called, is that
-// these bytes are the text for the input.
-fn write_text(input: &[u8], read: usize, output: &[u8], count: usize) -> bool
-    requires { (count ≤ length output.now) × ReportOn (take read input.now) (take count output.now) }
+// Writes bytes until all are written, or stops at the first write that takes nothing or fails, and answers whether all
+// were.
+fn write_full<W: Write>(writer: &mut W, bytes: &[u8]) -> bool
+    ensures { WritesFront result bytes.now (W.contents writer.old) (W.contents writer.new) }
 {
-    io::write_all(STANDARD_OUTPUT, &output[0..count])
+    let mut done = 0;
+    while done < bytes.len() {
+        match writer.write(&bytes[done..]) {
+            Ok(0) => return false,
+            Ok(n) => done += n,
+            Err(_) => return false,
+        }
+    }
+    true
 }
 
-// Reads standard input, reports on what was read, and writes the report's text to standard output. What is left in the
-// output buffer is promised, of the bytes that stand at the front of the input buffer; that these are the input's, and
-// that those written arrive, is the operating system's part, of which no promise can speak.
-pub fn check_input(input: &mut [u8; INPUT_ROOM], output: &mut [u8; OUTPUT_ROOM]) -> Checked
-    ensures { ChecksInput result input.new output.old output.new }
+// Writes the first bytes of a buffer: the one line that hands anything to the writer, which for the program is standard
+// output. What the operating system writes no promise can say; but what this function relies on, and the prover checks
+// where it is called, is that these bytes are the text for the input.
+fn write_text<W: Write>(
+    writer: &mut W,
+    input: &[u8],
+    read: usize,
+    output: &[u8],
+    count: usize,
+) -> bool
+    requires { (count ≤ length output.now) × ReportOn (take read input.now) (take count output.now) }
+    ensures { WritesFront result (take count output.now) (W.contents writer.old) (W.contents writer.new) }
 {
-    let read = io::read_full(STANDARD_INPUT, input);
+    write_full(writer, &output[0..count])
+}
+
+// Reads an input, reports on what was read, and writes the report's text. What is left in the output buffer is promised,
+// of the bytes that stand at the front of the input buffer. Where the bytes of the reader and of the writer are known,
+// it is promised too that these are the reader's first, and that the writer gets the text's first, all of them if
+// `written` is true. For the program the two are standard input and standard output: that the bytes are the input's, and
+// that those written arrive, is then the operating system's part, of which no promise can speak.
+pub fn check_input<R: Read, W: Write>(
+    reader: &mut R,
+    writer: &mut W,
+    input: &mut [u8; INPUT_ROOM],
+    output: &mut [u8; OUTPUT_ROOM],
+) -> Checked
+    ensures checks { ChecksInput result input.new output.old output.new }
+    ensures reads { Consumes (R.remaining reader.old) (R.remaining reader.new) (take result.read input.new) }
+    ensures writes { WritesFront result.written (take result.length output.new)
+        (W.contents writer.old) (W.contents writer.new) }
+{
+    let read = read_full(reader, input);
     let length = report_front(input, read, output);
-    let written = write_text(input, read, output, length);
+    let written = write_text(writer, input, read, output, length);
     Checked {
         read,
         length,

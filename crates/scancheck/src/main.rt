@@ -3,8 +3,8 @@
 // buffer; here are only its two buffers. The gate runs it on the bench case.
 #![tactic(auto)]
 
-fn main() {
+fn main(rt: HostRuntime) {
     let mut input = [0u8; program::INPUT_ROOM];
     let mut output = [0u8; program::OUTPUT_ROOM];
-    program::check_input(&mut input, &mut output);
+    program::check_input(&mut rt.stdin(), &mut rt.stdout(), &mut input, &mut output);
 }

@@ -2,8 +2,8 @@
 // stands in front, so that a program that looked at the blocks first would find left-over bytes at 35 instead.
 #![tactic(auto)]
 
-fn main() {
+fn main(rt: HostRuntime) {
     let mut input = [0u8; program::INPUT_ROOM];
     let mut output = [0u8; program::OUTPUT_ROOM];
-    program::check_input(&mut input, &mut output);
+    program::check_input(&mut rt.stdin(), &mut rt.stdout(), &mut input, &mut output);
 }

@@ -1,7 +1,9 @@
-// Runs the records of standard input through the readers, the writers and the sheet's lookup, and prints a line for each.
+// Runs the records of standard input through the readers, the writers and the sheet's lookup, and prints a line for
+// each.
 //
-// A record is a command, three numbers of two bytes each, low byte first, and data. The numbers: what goes along with the command, how much
-// room is lent, how many bytes of data follow. A writer's data are 16-bit numbers, low byte first; a lookup's are the name and then the sheet.
+// A record is a command, three numbers of two bytes each, low byte first, and data. The numbers: what goes along with
+// the command, how much room is lent, how many bytes of data follow. A writer's data are 16-bit numbers, low byte
+// first; a lookup's are the name and then the sheet.
 #![tactic(auto)]
 
 mod text;
@@ -11,7 +13,12 @@ ghost use Rattle.std.specs.Prelude.{◌≤◌};
 use coding::{Answer, Number};
 use requirement::{Checked, Kind};
 use sheet::Found;
+use std::io;
+use std::io::{BufWriter, Read, Write};
 use text::ROOM;
+
+// No more of the input is read.
+const INPUT_ROOM: u64 = 256000;
 
 // A code that is read or written; an inputs record takes the input count along.
 #[derive(Clone, Copy)]
@@ -30,53 +37,53 @@ fn cut(room: usize) -> usize
     ROOM
 }
 
-fn say_kind(kind: Kind) {
+fn say_kind<W: Write>(out: &mut W, kind: Kind) -> io::Result<()> {
     match kind {
-        Kind::Untranslated => text::say(b"requirement"),
-        Kind::Translated => text::say(b"translated"),
+        Kind::Untranslated => text::say(out, b"requirement"),
+        Kind::Translated => text::say(out, b"translated"),
     }
 }
 
-fn say_code(code: Code) {
+fn say_code<W: Write>(out: &mut W, code: Code) -> io::Result<()> {
     match code {
-        Code::Requirement(kind) => say_kind(kind),
-        Code::Table => text::say(b"table"),
-        Code::Inputs(count) => text::say_number(b"inputs ", count as u64),
+        Code::Requirement(kind) => say_kind(out, kind),
+        Code::Table => text::say(out, b"table"),
+        Code::Inputs(count) => text::say_number(out, b"inputs ", count as u64),
     }
 }
 
-fn read_number(bytes: &[u8], at: usize) {
-    text::say_number(b"read number at ", at as u64);
+fn read_number<W: Write>(out: &mut W, bytes: &[u8], at: usize) -> io::Result<()> {
+    text::say_number(out, b"read number at ", at as u64)?;
     match coding::read_number(bytes, at) {
-        Number::Fault(cause, place) => text::say_refused(cause, place),
+        Number::Fault(cause, place) => text::say_refused(out, cause, place)?,
         Number::Value(v, next) => {
-            text::say_number(b": accepted ", v as u64);
-            text::say_number(b" next ", next as u64);
+            text::say_number(out, b": accepted ", v as u64)?;
+            text::say_number(out, b" next ", next as u64)?;
         }
     }
-    text::say(b"\n");
+    text::say(out, b"\n")
 }
 
-fn write_number(v: u16, room: usize) {
-    text::say_number(b"write number ", v as u64);
+fn write_number<W: Write>(out: &mut W, v: u16, room: usize) -> io::Result<()> {
+    text::say_number(out, b"write number ", v as u64)?;
     let lent = cut(room);
     let mut buf = [165u8; ROOM];
     let answer = coding::write_number(v, &mut buf[0..lent]);
-    text::say_stored_bytes(answer, lent, &buf);
+    text::say_stored_bytes(out, answer, lent, &buf)
 }
 
-fn check(kind: Kind, bytes: &[u8]) {
-    text::say(b"check ");
-    say_kind(kind);
+fn check<W: Write>(out: &mut W, kind: Kind, bytes: &[u8]) -> io::Result<()> {
+    text::say(out, b"check ")?;
+    say_kind(out, kind)?;
     let none = [0u16; 1];
     match requirement::check(kind, true, bytes, &none) {
-        Checked::Refused(cause, place) => text::say_refused(cause, place),
+        Checked::Refused(cause, place) => text::say_refused(out, cause, place)?,
         Checked::Whole(nodes, depth) => {
-            text::say_number(b": nodes ", nodes as u64);
-            text::say_number(b" depth ", depth as u64);
+            text::say_number(out, b": nodes ", nodes as u64)?;
+            text::say_number(out, b" depth ", depth as u64)?;
         }
     }
-    text::say(b"\n");
+    text::say(out, b"\n")
 }
 
 fn read_into(code: Code, bytes: &[u8], out: &mut [u16]) -> Answer {
@@ -87,13 +94,13 @@ fn read_into(code: Code, bytes: &[u8], out: &mut [u16]) -> Answer {
     }
 }
 
-fn read(code: Code, room: usize, bytes: &[u8]) {
-    text::say(b"read ");
-    say_code(code);
+fn read<W: Write>(out: &mut W, code: Code, room: usize, bytes: &[u8]) -> io::Result<()> {
+    text::say(out, b"read ")?;
+    say_code(out, code)?;
     let lent = cut(room);
-    let mut out = [165u16; ROOM];
-    let answer = read_into(code, bytes, &mut out[0..lent]);
-    text::say_stored(answer, lent, &out);
+    let mut numbers = [165u16; ROOM];
+    let answer = read_into(code, bytes, &mut numbers[0..lent]);
+    text::say_stored(out, answer, lent, &numbers)
 }
 
 fn write_into(code: Code, numbers: &[u16], buf: &mut [u8]) -> Answer {
@@ -104,35 +111,36 @@ fn write_into(code: Code, numbers: &[u16], buf: &mut [u8]) -> Answer {
     }
 }
 
-fn write(code: Code, room: usize, data: &[u8]) {
-    text::say(b"write ");
-    say_code(code);
+fn write<W: Write>(out: &mut W, code: Code, room: usize, data: &[u8]) -> io::Result<()> {
+    text::say(out, b"write ")?;
+    say_code(out, code)?;
     let lent = cut(room);
     let count = cut(data.len() / 2);
     let mut numbers = [0u16; ROOM];
     text::unpack(true, data, &mut numbers);
     let mut buf = [165u8; ROOM];
     let answer = write_into(code, &numbers[0..count], &mut buf[0..lent]);
-    text::say_stored_bytes(answer, lent, &buf);
+    text::say_stored_bytes(out, answer, lent, &buf)
 }
 
 // The lookup by `find`, and the bytes that `body` returns.
-fn look_up(sheet: &[u8], name: &[u8]) {
-    text::say_number(b"sheet, name of ", name.len() as u64);
+fn look_up<W: Write>(out: &mut W, sheet: &[u8], name: &[u8]) -> io::Result<()> {
+    text::say_number(out, b"sheet, name of ", name.len() as u64)?;
     match sheet::find(sheet, name) {
-        Found::Refused(cause, place) => text::say_refused(cause, place),
+        Found::Refused(cause, place) => text::say_refused(out, cause, place)?,
         Found::Body(begin, end) => {
-            text::say_number(b": body from ", begin as u64);
-            text::say_number(b" to ", end as u64);
+            text::say_number(out, b": body from ", begin as u64)?;
+            text::say_number(out, b" to ", end as u64)?;
         }
     }
-    text::say_body(sheet::body(sheet, name));
+    text::say_body(out, sheet::body(sheet, name))
 }
 
-fn look_up_in(data: &[u8], length: usize) {
+fn look_up_in<W: Write>(out: &mut W, data: &[u8], length: usize) -> io::Result<()> {
     if length <= data.len() {
-        look_up(&data[length..], &data[0..length]);
+        look_up(out, &data[length..], &data[0..length])?;
     }
+    Ok(())
 }
 
 // The code that a command reads or writes: in either row of commands the four come in this order.
@@ -145,52 +153,55 @@ fn code_of(command: u8, with: u16) -> Code {
     }
 }
 
-fn obey(command: u8, with: u16, room: usize, data: &[u8]) {
+fn obey<W: Write>(out: &mut W, command: u8, with: u16, room: usize, data: &[u8]) -> io::Result<()> {
     match command {
-        0 => read_number(data, with as usize),
-        1 => write_number(with, room),
-        2 => check(Kind::Untranslated, data),
-        3 => check(Kind::Translated, data),
-        4..=7 => read(code_of(command, with), room, data),
-        8..=11 => write(code_of(command, with), room, data),
-        12 => look_up_in(data, with as usize),
-        _ => text::say(b"no such command\n"),
+        0 => read_number(out, data, with as usize),
+        1 => write_number(out, with, room),
+        2 => check(out, Kind::Untranslated, data),
+        3 => check(out, Kind::Translated, data),
+        4..=7 => read(out, code_of(command, with), room, data),
+        8..=11 => write(out, code_of(command, with), room, data),
+        12 => look_up_in(out, data, with as usize),
+        _ => text::say(out, b"no such command\n"),
     }
 }
 
 // The record at a place. The place after it, or that place itself where there is no whole record.
-fn record(input: &[u8], at: usize) -> usize {
+fn record<W: Write>(out: &mut W, input: &[u8], at: usize) -> io::Result<usize> {
     if input.len() < at {
-        return at;
+        return Ok(at);
     }
     if input.len() - at < 7 {
-        return at;
+        return Ok(at);
     }
     let with = text::pair_at(input, at + 1);
     let room = text::pair_at(input, at + 3);
     let size = text::pair_at(input, at + 5) as usize;
     let begin = at + 7;
     if input.len() - begin < size {
-        return at;
+        return Ok(at);
     }
     let end = begin + size;
-    obey(input[at], with, room as usize, &input[begin..end]);
-    end
+    obey(out, input[at], with, room as usize, &input[begin..end])?;
+    Ok(end)
 }
 
-fn obey_all(input: &[u8]) {
+fn obey_all<W: Write>(out: &mut W, input: &[u8]) -> io::Result<()> {
     let mut at: usize = 0;
     while at < input.len() {
-        let next = record(input, at);
+        let next = record(out, input, at)?;
         if next <= at {
-            return;
+            return Ok(());
         }
         at = next;
     }
+    Ok(())
 }
 
-fn main() {
-    let mut input = [0u8; 256000];
-    let n = io::read_full(0, &mut input);
-    obey_all(&input[..n]);
+fn main(rt: HostRuntime) -> io::Result<()> {
+    let mut input = Vec::new(rt.alloc());
+    rt.stdin().take(INPUT_ROOM).read_to_end(&mut input)?;
+    let mut out = BufWriter::new(rt.alloc(), rt.stdout())?;
+    obey_all(&mut out, &input)?;
+    out.flush()
 }

@@ -2,6 +2,8 @@
 ghost use Rattle.std.specs.Prelude.{◌≤◌};
 
 use coding::{Answer, Cause};
+use std::io;
+use std::io::Write;
 
 // The size of the buffers, the most room that is lent.
 pub const ROOM: usize = 8000;
@@ -9,18 +11,18 @@ pub const ROOM: usize = 8000;
 // Of a row of more than 40 numbers so many are printed at each end.
 const ENDS: usize = 20;
 
-pub fn say(words: &[u8]) {
-    io::write_all(1, words);
+pub fn say<W: Write>(out: &mut W, words: &[u8]) -> io::Result<()> {
+    out.write_all(words)
 }
 
-pub fn say_number(words: &[u8], n: u64) {
-    io::write_all(1, words);
-    io::print_decimal(1, n);
+pub fn say_number<W: Write>(out: &mut W, words: &[u8], n: u64) -> io::Result<()> {
+    out.write_all(words)?;
+    write!(out, "{n}")
 }
 
-pub fn say_refused(cause: Cause, place: usize) {
-    say_number(b": refused ", coding::number_of(cause) as u64);
-    say_number(b" at ", place as u64);
+pub fn say_refused<W: Write>(out: &mut W, cause: Cause, place: usize) -> io::Result<()> {
+    say_number(out, b": refused ", coding::number_of(cause) as u64)?;
+    say_number(out, b" at ", place as u64)
 }
 
 // Whether the number at place i of n is printed.
@@ -34,12 +36,13 @@ fn is_shown(i: usize, n: usize) -> bool {
     n - ENDS <= i
 }
 
-fn say_item(v: u16, i: usize, n: usize) {
+fn say_item<W: Write>(out: &mut W, v: u16, i: usize, n: usize) -> io::Result<()> {
     if is_shown(i, n) {
-        say_number(b" ", v as u64);
+        say_number(out, b" ", v as u64)?;
     } else if i == ENDS {
-        say(b" ..");
+        say(out, b" ..")?;
     }
+    Ok(())
 }
 
 // The number at a place, 0 past the end.
@@ -51,16 +54,18 @@ fn number_at(row: &[u16], i: usize) -> u16 {
 }
 
 // The first n numbers of a row.
-fn say_row(row: &[u16], n: usize) {
-    say(b":");
+fn say_row<W: Write>(out: &mut W, row: &[u16], n: usize) -> io::Result<()> {
+    say(out, b":")?;
     let mut i: usize = 0;
     while i < n {
-        say_item(number_at(row, i), i, n);
+        say_item(out, number_at(row, i), i, n)?;
         i += 1;
     }
+    Ok(())
 }
 
-// Changes with every number of the row and with its place: the modulus is a prime, and the powers of 257 below the row's length all differ.
+// Changes with every number of the row and with its place: the modulus is a prime, and the powers of 257 below the
+// row's length all differ.
 fn checksum(row: &[u16]) -> u64 {
     let mut sum: u64 = 0;
     let mut i: usize = 0;
@@ -77,36 +82,47 @@ fn wide(v: u16) -> u64
     v as u64
 }
 
-// The answer of a reader, with the numbers that it stored, and the checksum of the whole buffer, of which so much was lent.
-pub fn say_stored(answer: Answer, lent: usize, buffer: &[u16; ROOM]) {
-    say_number(b" room ", lent as u64);
+// The answer of a reader, with the numbers that it stored, and the checksum of the whole buffer, of which so much was
+// lent.
+pub fn say_stored<W: Write>(
+    out: &mut W,
+    answer: Answer,
+    lent: usize,
+    buffer: &[u16; ROOM],
+) -> io::Result<()> {
+    say_number(out, b" room ", lent as u64)?;
     match answer {
-        Answer::Refused(cause, place) => say_refused(cause, place),
+        Answer::Refused(cause, place) => say_refused(out, cause, place)?,
         Answer::Count(n) => {
-            say_number(b": accepted ", n as u64);
-            say_row(buffer, n);
+            say_number(out, b": accepted ", n as u64)?;
+            say_row(out, buffer, n)?;
         }
     }
-    say_number(b"; buffer ", checksum(buffer));
-    say(b"\n");
+    say_number(out, b"; buffer ", checksum(buffer))?;
+    say(out, b"\n")
 }
 
 // The same of a writer.
-pub fn say_stored_bytes(answer: Answer, lent: usize, buffer: &[u8; ROOM]) {
+pub fn say_stored_bytes<W: Write>(
+    out: &mut W,
+    answer: Answer,
+    lent: usize,
+    buffer: &[u8; ROOM],
+) -> io::Result<()> {
     let mut row = [0u16; ROOM];
     unpack(false, buffer, &mut row);
-    say_stored(answer, lent, &row);
+    say_stored(out, answer, lent, &row)
 }
 
 // The bytes of a body, and their checksum.
-pub fn say_body(body: &[u8]) {
+pub fn say_body<W: Write>(out: &mut W, body: &[u8]) -> io::Result<()> {
     let mut row = [0u16; ROOM];
     unpack(false, body, &mut row);
     let n = body.len();
-    say_number(b"; bytes ", n as u64);
-    say_row(&row, n);
-    say_number(b"; sum ", checksum(&row));
-    say(b"\n");
+    say_number(out, b"; bytes ", n as u64)?;
+    say_row(out, &row, n)?;
+    say_number(out, b"; sum ", checksum(&row))?;
+    say(out, b"\n")
 }
 
 // The whole row anew: the bytes as numbers, each of one byte or of two, and 0 past their end.

@@ -1,7 +1,8 @@
 // Runs the records of standard input through the judging and the translation, and prints a line for each.
 //
-// A record is a command, five numbers of two bytes each, low byte first, and data. The numbers: the loop start, how much work and how much
-// list are lent, how many bytes the code has and how many the trace. The data: the code, then the trace.
+// A record is a command, five numbers of two bytes each, low byte first, and data. The numbers: the loop start, how
+// much work and how much list are lent, how many bytes the code has and how many the trace. The data: the code, then
+// the trace.
 #![tactic(auto)]
 
 mod text;
@@ -9,7 +10,12 @@ mod text;
 ghost use Rattle.std.specs.Prelude.{◌≤◌};
 
 use requirement::Kind;
+use std::io;
+use std::io::{BufWriter, Read, Write};
 use text::ROOM;
+
+// No more of the input is read.
+const INPUT_ROOM: u64 = 256000;
 
 // The bytes of a record before its data.
 const HEAD: usize = 11;
@@ -44,20 +50,32 @@ fn lent(room: u16) -> usize
     ROOM
 }
 
-fn say_asked(kind: Kind, start: usize, work: usize, list: usize) {
-    text::say(b"judge ");
-    text::say_kind(kind);
-    text::say_number(b" loop ", start as u64);
-    text::say_number(b" work ", work as u64);
-    text::say_number(b" list ", list as u64);
+fn say_asked<W: Write>(
+    out: &mut W,
+    kind: Kind,
+    start: usize,
+    work: usize,
+    list: usize,
+) -> io::Result<()> {
+    text::say(out, b"judge ")?;
+    text::say_kind(out, kind)?;
+    text::say_number(out, b" loop ", start as u64)?;
+    text::say_number(out, b" work ", work as u64)?;
+    text::say_number(out, b" list ", list as u64)
 }
 
-fn judging(command: u16, head: &[u8], code: &[u8], trace: &[u8]) {
+fn judging<W: Write>(
+    out: &mut W,
+    command: u16,
+    head: &[u8],
+    code: &[u8],
+    trace: &[u8],
+) -> io::Result<()> {
     let kind = kind_of(command);
     let start = start_of(command, text::pair_at(head, 1));
     let room = lent(text::pair_at(head, 3));
     let places = lent(text::pair_at(head, 5));
-    say_asked(kind, start, room, places);
+    say_asked(out, kind, start, room, places)?;
     let mut work = [165u8; ROOM];
     let mut list = [165u8; ROOM];
     let answer = judge::judge(
@@ -68,72 +86,76 @@ fn judging(command: u16, head: &[u8], code: &[u8], trace: &[u8]) {
         &mut work[0..room],
         &mut list[0..places],
     );
-    text::say_judged(answer, &list);
-    text::say_buffer(b"; work ", &work);
-    text::say_buffer(b" list ", &list);
-    text::say(b"\n");
+    text::say_judged(out, answer, &list)?;
+    text::say_buffer(out, b"; work ", &work)?;
+    text::say_buffer(out, b" list ", &list)?;
+    text::say(out, b"\n")
 }
 
-fn translating(head: &[u8], code: &[u8]) {
+fn translating<W: Write>(out: &mut W, head: &[u8], code: &[u8]) -> io::Result<()> {
     let room = lent(text::pair_at(head, 3));
-    text::say_number(b"translate room ", room as u64);
-    let mut out = [165u8; ROOM];
-    let answer = translate::translate(code, &mut out[0..room]);
-    text::say_translated(answer, &out);
-    text::say_buffer(b"; buffer ", &out);
-    text::say(b"\n");
+    text::say_number(out, b"translate room ", room as u64)?;
+    let mut bytes = [165u8; ROOM];
+    let answer = translate::translate(code, &mut bytes[0..room]);
+    text::say_translated(out, answer, &bytes)?;
+    text::say_buffer(out, b"; buffer ", &bytes)?;
+    text::say(out, b"\n")
 }
 
 // Command 3 translates, the others judge: 1 a translated requirement, 2 with a loop start that is far too high.
-fn obey(head: &[u8], code: &[u8], trace: &[u8]) {
+fn obey<W: Write>(out: &mut W, head: &[u8], code: &[u8], trace: &[u8]) -> io::Result<()> {
     let command = text::byte_at(head, 0);
     if command == 3 {
-        translating(head, code);
+        translating(out, head, code)
     } else {
-        judging(command, head, code, trace);
+        judging(out, command, head, code, trace)
     }
 }
 
 // The record at a place. The place after it, or that place itself where there is no whole record.
-fn record(input: &[u8], at: usize) -> usize {
+fn record<W: Write>(out: &mut W, input: &[u8], at: usize) -> io::Result<usize> {
     if input.len() < at {
-        return at;
+        return Ok(at);
     }
     if input.len() - at < HEAD {
-        return at;
+        return Ok(at);
     }
     let size = text::pair_at(input, at + 7) as usize;
     let length = text::pair_at(input, at + 9) as usize;
     let begin = at + HEAD;
     if input.len() - begin < size {
-        return at;
+        return Ok(at);
     }
     let middle = begin + size;
     if input.len() - middle < length {
-        return at;
+        return Ok(at);
     }
     let end = middle + length;
     obey(
+        out,
         &input[at..begin],
         &input[begin..middle],
         &input[middle..end],
-    );
-    end
+    )?;
+    Ok(end)
 }
 
-fn obey_all(input: &[u8]) {
+fn obey_all<W: Write>(out: &mut W, input: &[u8]) -> io::Result<()> {
     let mut at: usize = 0;
     while at < input.len() {
-        let next = record(input, at);
+        let next = record(out, input, at)?;
         if next <= at {
-            return;
+            return Ok(());
         }
         at = next;
     }
+    Ok(())
 }
 
-fn main() {
-    let mut input = [0u8; 256000];
-    let n = io::read_full(0, &mut input);
-    obey_all(&input[..n]);
+fn main(rt: HostRuntime) -> io::Result<()> {
+    let mut input = Vec::new(rt.alloc());
+    rt.stdin().take(INPUT_ROOM).read_to_end(&mut input)?;
+    let mut out = BufWriter::new(rt.alloc(), rt.stdout())?;
+    obey_all(&mut out, &input)?;
+    out.flush()
 }

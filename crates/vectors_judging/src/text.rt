@@ -4,6 +4,8 @@ ghost use Rattle.std.specs.Prelude.{◌≤◌};
 use coding::{Answer, Cause};
 use judge::Judged;
 use requirement::Kind;
+use std::io;
+use std::io::Write;
 
 // The size of the buffers, the most room that is lent.
 pub const ROOM: usize = 8192;
@@ -11,32 +13,32 @@ pub const ROOM: usize = 8192;
 // Of so many findings or bytes all are printed, of more none.
 const SHOWN: usize = 40;
 
-pub fn say(words: &[u8]) {
-    io::write_all(1, words);
+pub fn say<W: Write>(out: &mut W, words: &[u8]) -> io::Result<()> {
+    out.write_all(words)
 }
 
-pub fn say_number(words: &[u8], n: u64) {
-    io::write_all(1, words);
-    io::print_decimal(1, n);
+pub fn say_number<W: Write>(out: &mut W, words: &[u8], n: u64) -> io::Result<()> {
+    out.write_all(words)?;
+    write!(out, "{n}")
 }
 
-fn say_refused(cause: Cause, place: usize) {
-    say_number(b": refused ", coding::number_of(cause) as u64);
-    say_number(b" at ", place as u64);
+fn say_refused<W: Write>(out: &mut W, cause: Cause, place: usize) -> io::Result<()> {
+    say_number(out, b": refused ", coding::number_of(cause) as u64)?;
+    say_number(out, b" at ", place as u64)
 }
 
-pub fn say_kind(kind: Kind) {
+pub fn say_kind<W: Write>(out: &mut W, kind: Kind) -> io::Result<()> {
     match kind {
-        Kind::Untranslated => say(b"requirement"),
-        Kind::Translated => say(b"translated"),
+        Kind::Untranslated => say(out, b"requirement"),
+        Kind::Translated => say(out, b"translated"),
     }
 }
 
-fn say_verdict(holds: bool) {
+fn say_verdict<W: Write>(out: &mut W, holds: bool) -> io::Result<()> {
     if holds {
-        say(b": holds");
+        say(out, b": holds")
     } else {
-        say(b": fails");
+        say(out, b": fails")
     }
 }
 
@@ -48,21 +50,22 @@ fn shown(n: usize) -> usize {
 }
 
 // The n numbers from a buffer's first byte on, each of one byte or of two.
-fn say_row(pairs: bool, bytes: &[u8], n: usize) {
-    say(b":");
-    say_items(pairs, bytes, shown(n));
+fn say_row<W: Write>(out: &mut W, pairs: bool, bytes: &[u8], n: usize) -> io::Result<()> {
+    say(out, b":")?;
+    say_items(out, pairs, bytes, shown(n))
 }
 
-fn say_items(pairs: bool, bytes: &[u8], n: usize) {
+fn say_items<W: Write>(out: &mut W, pairs: bool, bytes: &[u8], n: usize) -> io::Result<()> {
     let mut i: usize = 0;
     while i < n {
-        say_item(item_at(pairs, bytes, i));
+        say_item(out, item_at(pairs, bytes, i))?;
         i += 1;
     }
+    Ok(())
 }
 
-fn say_item(v: u16) {
-    say_number(b" ", v as u64);
+fn say_item<W: Write>(out: &mut W, v: u16) -> io::Result<()> {
+    say_number(out, b" ", v as u64)
 }
 
 fn item_at(pairs: bool, bytes: &[u8], i: usize) -> u16 {
@@ -101,7 +104,8 @@ pub fn pair_at(bytes: &[u8], at: usize) -> u16 {
     high * 256 + low
 }
 
-// Changes with every byte of a buffer and with its place: the modulus is a prime, and the powers of 257 below the buffer's length all differ.
+// Changes with every byte of a buffer and with its place: the modulus is a prime, and the powers of 257 below the
+// buffer's length all differ.
 fn checksum(bytes: &[u8]) -> u64 {
     let mut sum: u64 = 0;
     let mut i: usize = 0;
@@ -119,29 +123,29 @@ fn wide(b: u8) -> u64
 }
 
 // The answer of a judging, with the positions in its list.
-pub fn say_judged(answer: Judged, list: &[u8; ROOM]) {
+pub fn say_judged<W: Write>(out: &mut W, answer: Judged, list: &[u8; ROOM]) -> io::Result<()> {
     match answer {
-        Judged::Refused(cause, place) => say_refused(cause, place),
+        Judged::Refused(cause, place) => say_refused(out, cause, place),
         Judged::Verdict(holds, count) => {
-            say_verdict(holds);
-            say_number(b", findings ", count as u64);
-            say_row(true, list, count);
+            say_verdict(out, holds)?;
+            say_number(out, b", findings ", count as u64)?;
+            say_row(out, true, list, count)
         }
     }
 }
 
 // The answer of a translation, with its bytes.
-pub fn say_translated(answer: Answer, out: &[u8; ROOM]) {
+pub fn say_translated<W: Write>(out: &mut W, answer: Answer, bytes: &[u8; ROOM]) -> io::Result<()> {
     match answer {
-        Answer::Refused(cause, place) => say_refused(cause, place),
+        Answer::Refused(cause, place) => say_refused(out, cause, place),
         Answer::Count(n) => {
-            say_number(b": accepted ", n as u64);
-            say_row(false, out, n);
+            say_number(out, b": accepted ", n as u64)?;
+            say_row(out, false, bytes, n)
         }
     }
 }
 
 // The checksum of a whole buffer, whatever part of it was lent.
-pub fn say_buffer(words: &[u8], buffer: &[u8; ROOM]) {
-    say_number(words, checksum(buffer));
+pub fn say_buffer<W: Write>(out: &mut W, words: &[u8], buffer: &[u8; ROOM]) -> io::Result<()> {
+    say_number(out, words, checksum(buffer))
 }

@@ -3,6 +3,8 @@ ghost use Rattle.std.specs.Prelude.{◌≤◌};
 
 use coding::Cause;
 use run::Ran;
+use std::io;
+use std::io::Write;
 
 // The size of the buffer, the most room that is lent.
 pub const ROOM: usize = 20500;
@@ -10,18 +12,18 @@ pub const ROOM: usize = 20500;
 // Of a trace so many positions are printed, each of 5 bytes.
 const SHOWN: usize = 16;
 
-pub fn say(words: &[u8]) {
-    io::write_all(1, words);
+pub fn say<W: Write>(out: &mut W, words: &[u8]) -> io::Result<()> {
+    out.write_all(words)
 }
 
-pub fn say_number(words: &[u8], n: u64) {
-    io::write_all(1, words);
-    io::print_decimal(1, n);
+pub fn say_number<W: Write>(out: &mut W, words: &[u8], n: u64) -> io::Result<()> {
+    out.write_all(words)?;
+    write!(out, "{n}")
 }
 
-fn say_cause(words: &[u8], cause: Cause, place: u64) {
-    say_number(words, coding::number_of(cause) as u64);
-    say_number(b" at ", place);
+fn say_cause<W: Write>(out: &mut W, words: &[u8], cause: Cause, place: u64) -> io::Result<()> {
+    say_number(out, words, coding::number_of(cause) as u64)?;
+    say_number(out, b" at ", place)
 }
 
 // How many bytes of a trace of n positions are printed.
@@ -32,20 +34,21 @@ fn shown(n: usize) -> usize {
     n * 5
 }
 
-fn say_positions(trace: &[u8], n: usize) {
+fn say_positions<W: Write>(out: &mut W, trace: &[u8], n: usize) -> io::Result<()> {
     let mut i: usize = 0;
     while i < n {
-        say_byte(byte_at(trace, i), i % 5 == 0);
+        say_byte(out, byte_at(trace, i), i % 5 == 0)?;
         i += 1;
     }
+    Ok(())
 }
 
 // Two digits, with a space before the first byte of a position.
-fn say_byte(byte: u16, first: bool) {
+fn say_byte<W: Write>(out: &mut W, byte: u16, first: bool) -> io::Result<()> {
     if first {
-        say(b" ");
+        say(out, b" ")?;
     }
-    io::print_hex(1, byte as u64, 2);
+    write!(out, "{byte:02x}")
 }
 
 // The byte at a place, 0 past the end.
@@ -74,7 +77,8 @@ pub fn pair_at(bytes: &[u8], at: usize) -> u16 {
     high * 256 + low
 }
 
-// Changes with every byte of a buffer and with its place: the modulus is a prime, and the powers of 257 below the buffer's length all differ.
+// Changes with every byte of a buffer and with its place: the modulus is a prime, and the powers of 257 below the
+// buffer's length all differ.
 fn checksum(bytes: &[u8]) -> u64 {
     let mut sum: u64 = 0;
     let mut i: usize = 0;
@@ -92,23 +96,23 @@ fn wide(b: u8) -> u64
 }
 
 // The answer of a run, with the first positions of its trace.
-pub fn say_ran(answer: Ran, trace: &[u8; ROOM]) {
+pub fn say_ran<W: Write>(out: &mut W, answer: Ran, trace: &[u8; ROOM]) -> io::Result<()> {
     match answer {
         Ran::Closed(n, start) => {
-            say_number(b": closed ", n as u64);
-            say_number(b" loop ", start as u64);
-            say(b", trace");
-            say_positions(trace, shown(n));
+            say_number(out, b": closed ", n as u64)?;
+            say_number(out, b" loop ", start as u64)?;
+            say(out, b", trace")?;
+            say_positions(out, trace, shown(n))
         }
         Ran::Halted(cause, scan, process) => {
-            say_cause(b": halted ", cause, scan as u64);
-            say_number(b" process ", process as u64);
+            say_cause(out, b": halted ", cause, scan as u64)?;
+            say_number(out, b" process ", process as u64)
         }
-        Ran::Refused(cause, place) => say_cause(b": refused ", cause, place as u64),
+        Ran::Refused(cause, place) => say_cause(out, b": refused ", cause, place as u64),
     }
 }
 
 // The checksum of the whole buffer, whatever part of it was lent.
-pub fn say_buffer(words: &[u8], buffer: &[u8; ROOM]) {
-    say_number(words, checksum(buffer));
+pub fn say_buffer<W: Write>(out: &mut W, words: &[u8], buffer: &[u8; ROOM]) -> io::Result<()> {
+    say_number(out, words, checksum(buffer))
 }

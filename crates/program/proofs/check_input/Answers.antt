@@ -1,0 +1,7 @@
+use Rattle.std.proofs.Common.{rules}
+use Rattle.program.proofs.Fronts.{text_there}
+use Rattle.program.proofs.check_input.Goals as goal
+
+pub write_text-written-requires : goal.write_text-written-requires
+write_text-written-requires g c =
+    text_there _ c.report_front-length.result _ _ (search rules) c.report_front-length.ensures
