@@ -14,11 +14,11 @@ use coding::{Answer, Number};
 use requirement::{Checked, Kind};
 use sheet::Found;
 use std::io;
-use std::io::{BufWriter, Read, Write};
+use std::io::Write;
 use text::ROOM;
 
 // No more of the input is read.
-const INPUT_ROOM: u64 = 256000;
+const INPUT_ROOM: usize = 256000;
 
 // A code that is read or written; an inputs record takes the input count along.
 #[derive(Clone, Copy)]
@@ -199,9 +199,7 @@ fn obey_all<W: Write>(out: &mut W, input: &[u8]) -> io::Result<()> {
 }
 
 fn main(rt: HostRuntime) -> io::Result<()> {
-    let mut input = Vec::new(rt.alloc());
-    rt.stdin().take(INPUT_ROOM).read_to_end(&mut input)?;
-    let mut out = BufWriter::new(rt.alloc(), rt.stdout())?;
-    obey_all(&mut out, &input)?;
-    out.flush()
+    let mut input = [0u8; INPUT_ROOM];
+    let read = text::read_full(&mut rt.stdin(), &mut input);
+    obey_all(&mut rt.stdout(), &input[..read])
 }

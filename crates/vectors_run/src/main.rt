@@ -9,11 +9,11 @@ mod text;
 ghost use Rattle.std.specs.Prelude.{◌≤◌};
 
 use std::io;
-use std::io::{BufWriter, Read, Write};
+use std::io::Write;
 use text::ROOM;
 
 // No more of the input is read.
-const INPUT_ROOM: u64 = 300000;
+const INPUT_ROOM: usize = 300000;
 
 // The bytes of a record before its data.
 const HEAD: usize = 7;
@@ -94,9 +94,7 @@ fn obey_all<W: Write>(out: &mut W, input: &[u8]) -> io::Result<()> {
 }
 
 fn main(rt: HostRuntime) -> io::Result<()> {
-    let mut input = Vec::new(rt.alloc());
-    rt.stdin().take(INPUT_ROOM).read_to_end(&mut input)?;
-    let mut out = BufWriter::new(rt.alloc(), rt.stdout())?;
-    obey_all(&mut out, &input)?;
-    out.flush()
+    let mut input = [0u8; INPUT_ROOM];
+    let read = text::read_full(&mut rt.stdin(), &mut input);
+    obey_all(&mut rt.stdout(), &input[..read])
 }

@@ -1,16 +1,31 @@
 // What is printed of an answer and of the buffer that was lent.
-ghost use Rattle.std.specs.Prelude.{◌≤◌};
+ghost use Rattle.std.specs.Prelude.{◌≤◌, length};
 
 use coding::Cause;
 use run::Ran;
 use std::io;
-use std::io::Write;
+use std::io::{Read, Write};
 
 // The size of the buffer, the most room that is lent.
 pub const ROOM: usize = 20500;
 
 // Of a trace so many positions are printed, each of 5 bytes.
 const SHOWN: usize = 16;
+
+// Reads until the buffer is full, the input ends or a read fails, and answers how many bytes stand at its front.
+pub fn read_full<R: Read>(reader: &mut R, input: &mut [u8]) -> usize
+    ensures { result ≤ length input.new }
+{
+    let mut done = 0;
+    while done < input.len() {
+        match reader.read(&mut input[done..]) {
+            Ok(0) => return done,
+            Ok(n) => done += n,
+            Err(_) => return done,
+        }
+    }
+    done
+}
 
 pub fn say<W: Write>(out: &mut W, words: &[u8]) -> io::Result<()> {
     out.write_all(words)
