@@ -1,6 +1,6 @@
 -- The promise of the program leaves no choice but for what the operating system did: of the same bytes read, the text's
 -- length and the whole buffer that holds it are the same, whatever the reader and the writer are. How many bytes are
--- read, which, and whether all was written, no promise can say.
+-- read, and whether all was written, no promise can say; nor which they are, where the reader's bytes are not known.
 -- Assumes nothing.
 use mathlib.Core.Path.{◌≡◌, sym, ap, ◌∙◌}
 use lib.ListN.{length, take}
