@@ -23,7 +23,7 @@ use Rattle.controller.specs.declared.Action.TheVariants.{Next, Stop, Err}
 use Rattle.scan.specs.Scanning.{read_of, write_of}
 use Rattle.invariants.specs.TableRows.{states_for, actions_for, test_for, row_at, There}
 use Rattle.invariants.specs.Allows.{RecordAllowed, StateAllowed, RecordAllowed.stopped as is_stopped}
-use Rattle.invariants.specs.Allows.{RecordAllowed.failed, RecordAllowed.active as is-active}
+use Rattle.invariants.specs.Allows.{RecordAllowed.failed, RecordAllowed.active as is_active}
 use Rattle.invariants.proofs.Acting.{Sent, nobody, sends, sent_of, send, own_of, of_timer, of_reset, Naming}
 use Rattle.invariants.proofs.Acting.{none_named, start_named, stop_named, naming}
 use Rattle.invariants.specs.Due.{guard_by, next_by, coded_by}
@@ -49,19 +49,19 @@ module _ (t : Table) (s : Sound t) where
       timer_allowed : (b₁ b₂ b₃ : Bool) (k : ℕ) → k ≤ length (actions_for t i p.state) → RecordAllowed t i p →
           RecordAllowed t i (of_timer b₁ b₂ b₃ p k [] stopped).own
       unfolding goes timed
-      timer_allowed true b₂ b₃ k e h = is-active d at_one
-      timer_allowed false true b₃ k e h = is-active d at_one
-      timer_allowed false false true k e h = is-active d e
+      timer_allowed true b₂ b₃ k e h = is_active d at_one
+      timer_allowed false true b₃ k e h = is_active d at_one
+      timer_allowed false false true k e h = is_active d e
       timer_allowed false false false k e h = h
 
       reset_allowed : (b₁ : Bool) → RecordAllowed t i p → RecordAllowed t i (of_reset b₁ p [] stopped).own
       unfolding goes timed
       reset_allowed true h = h
-      reset_allowed false h = is-active d at_one
+      reset_allowed false h = is_active d at_one
 
       entered : (j : ℕ) → OneOf j (length (states_for t i)) → RecordAllowed t i (entering j 1)
       unfolding entering
-      entered j e = is-active e (s.bodies i j b e)
+      entered j e = is_active e (s.bodies i j b e)
 
       up_one : p.state < length (states_for t i) → OneOf (up p.state) (length (states_for t i))
       unfolding up
@@ -71,13 +71,13 @@ module _ (t : Table) (s : Sound t) where
           RecordAllowed t i p → RecordAllowed t i (own_of a k p)
       unfolding own_of goes entering updated waited restarted
       own_allowed Skip k f e h = h
-      own_allowed End k f e h = is-active d at_one
-      own_allowed (Updates x u) k f e h = is-active d e
+      own_allowed End k f e h = is_active d at_one
+      own_allowed (Updates x u) k f e h = is_active d e
       own_allowed (Tout bound) k f e h =
           timer_allowed (eqb p.timer none) (ltb p.timer bound) (elapsed p.timer bound) k e h
       own_allowed Reset k f e h = reset_allowed (eqb p.timer none) h
-      own_allowed (StartP x) k f e h = is-active d e
-      own_allowed (StopP x) k f e h = is-active d e
+      own_allowed (StartP x) k f e h = is_active d e
+      own_allowed (StopP x) k f e h = is_active d e
       own_allowed Start k f e h = let m = s.states i b in entered 1 (omega arith)
       own_allowed (Set j) k f e h = entered j f
       own_allowed Next k f e h = entered (up p.state) (up_one f)
@@ -98,7 +98,7 @@ module _ (t : Table) (s : Sound t) where
         RecordAllowed t i (own_of x.action x.next p)
     unfolding own_of goes
     own_planned c _ (skipping z) h = h
-    own_planned c _ (ending d z) h = is-active d (s.bodies i p.state b d)
+    own_planned c _ (ending d z) h = is_active d (s.bodies i p.state b d)
     own_planned c _ (acting w) h =
         let fine = s.fine i p.state p.action w in
         own_allowed w.state (coded_by (row_at t i p)) (next_by (test_for t) c (row_at t i p)) fine (next_allowed c w) h
@@ -111,7 +111,7 @@ module _ (t : Table) (s : Sound t) where
   pub first_allowed : (x : ℕ) → OneOf x (length t.processes) → RecordAllowed t x (entering 1 1)
   unfolding entering
   first_allowed x b =
-      let m = s.states x b in let d : OneOf 1 (length (states_for t x)) = omega arith in is-active d (s.bodies x 1 b d)
+      let m = s.states x b in let d : OneOf 1 (length (states_for t x)) = omega arith in is_active d (s.bodies x 1 b d)
 
   pub stopped_allowed : (x : ℕ) → RecordAllowed t x stopped
   unfolding entering
@@ -169,7 +169,7 @@ module _ (t : Table) (s : Sound t) where
       go true k = k
       go false (is_stopped e) = is_stopped e
       go false (failed e) = failed e
-      go false (is-active d e) = is-active d e
+      go false (is_active d e) = is_active d e
 
   pub read_kept : (T I : List ℕ) (done : ℕ) (c : Controller) → StateAllowed t c → StateAllowed t (read_of T I done c)
   unfolding read_of

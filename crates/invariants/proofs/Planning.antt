@@ -22,7 +22,7 @@ use Rattle.controller.specs.declared.Action.TheVariants.{Skip, End}
 use Rattle.run.specs.Moves.{active, step_of}
 use Rattle.invariants.specs.TableRows.{states_for, actions_for, row_for, test_for, row_at, There}
 use Rattle.invariants.specs.Allows.{RecordAllowed, StateAllowed, RecordAllowed.stopped as is_stopped}
-use Rattle.invariants.specs.Allows.{RecordAllowed.failed, RecordAllowed.active as is-active}
+use Rattle.invariants.specs.Allows.{RecordAllowed.failed, RecordAllowed.active as is_active}
 use Rattle.invariants.specs.Due.{guard_by, next_by, coded_by, Due, skips, ends, acts}
 use Rattle.invariants.proofs.Stepping.{Plan, in_table, plan_of, plan_by, step_by, step_in_numbers}
 use Rattle.invariants.proofs.Sound.{Sound}
@@ -34,7 +34,7 @@ module _ (t : Table) (i : ℕ) (b : OneOf i (length t.processes)) (p : Process) 
   unfolding active
   in_state (is_stopped e) f = absurd (false≢true (rw e at f))
   in_state (failed e) f = absurd (false≢true (rw e at f))
-  in_state (is-active d e) f = (d, e)
+  in_state (is_active d e) f = (d, e)
 
   -- If it is not at the end of its body, it is at an action of the table.
   pub at_action : RecordAllowed t i p → active p.state ≡ true → eqb p.action body_end ≡ false →

@@ -13,10 +13,10 @@ use Rattle.requirement.specs.declared.Kind.{Kind}
 use Rattle.requirement.specs.declared.Checked.{Checked}
 
 module _ (kind : Kind) (s xs : List ℕ) (found : Checked) (n : ℕ) (answer : Answer) (a : answer ≡ counted n found) where
-  pub of-bytes : found ≡ checked kind (source_at true s xs 0) → n ≡ length (values (code_at s 0)) → answer ≡ grammar kind (code_at s 0)
+  pub of_bytes : found ≡ checked kind (source_at true s xs 0) → n ≡ length (values (code_at s 0)) → answer ≡ grammar kind (code_at s 0)
   unfolding grammar source_at
-  of-bytes f e = rw (a, f, e)
+  of_bytes f e = rw (a, f, e)
 
-  pub of-numbers : found ≡ checked kind (source_at false s xs 0) → n ≡ length xs → answer ≡ grammar kind (numbered 0 xs)
+  pub of_numbers : found ≡ checked kind (source_at false s xs 0) → n ≡ length xs → answer ≡ grammar kind (numbered 0 xs)
   unfolding grammar source_at
-  of-numbers f e = rw (a, f, e, (numbered_is 0 xs).0)
+  of_numbers f e = rw (a, f, e, (numbered_is 0 xs).0)

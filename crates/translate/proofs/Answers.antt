@@ -31,16 +31,16 @@ module _ (s d : List ℕ) where
   too_short h = (rw (lt-ltb _ _ h), refl)
 
   module _ (h : room_asked ≤ length d) (none : List ℕ) (found : Checked) (e : found ≡ checked untranslated (source_at true s none 0)) where
-    with-room : translated s d ≡ answered (parsed untranslated (code_at s 0))
+    with_room : translated s d ≡ answered (parsed untranslated (code_at s 0))
     unfolding translated
-    with-room = rw (le-ltb _ _ h)
+    with_room = rw (le-ltb _ _ h)
 
-    as-parsed : found ≡ checked_of (parsed untranslated (code_at s 0))
+    as_parsed : found ≡ checked_of (parsed untranslated (code_at s 0))
     unfolding checked source_at
-    as-parsed = e
+    as_parsed = e
 
-    pub not-read : (cause : Cause) (p : ℕ) → found ≡ NotWhole cause p → (Refused cause p ≡ translated s d) × (d ≡ d)
-    not-read cause p f = (rw with-room (go (parsed untranslated (code_at s 0)) as-parsed), refl)
+    pub not_read : (cause : Cause) (p : ℕ) → found ≡ NotWhole cause p → (Refused cause p ≡ translated s d) × (d ≡ d)
+    not_read cause p f = (rw with_room (go (parsed untranslated (code_at s 0)) as_parsed), refl)
       where
         go : (r : Parsed) → found ≡ checked_of r → Refused cause p ≡ answered r
         go (whole g) i = let z : ◌≡◌ {A = ℕ} 0 1 = cc in absurd (omega arith)
@@ -48,7 +48,7 @@ module _ (s d : List ℕ) where
 
     pub was_read : (nodes depth : ℕ) → found ≡ Whole nodes depth → (d' : List ℕ) (spot : Spot) → Wrote (walk_at untranslated depth s 0) d 0 d' spot →
         (Count spot.place ≡ translated s d) × (d' ≡ over d 0 (translation (parsed untranslated (code_at s 0))))
-    was_read nodes depth f d' spot w = rw with-room (go (parsed untranslated (code_at s 0)) refl as-parsed)
+    was_read nodes depth f d' spot w = rw with_room (go (parsed untranslated (code_at s 0)) refl as_parsed)
       where
         go : (r : Parsed) → parsed untranslated (code_at s 0) ≡ r → found ≡ checked_of r → (Count spot.place ≡ answered r) × (d' ≡ over d 0 (translation r))
         go (unread cause p) q i = let z : ◌≡◌ {A = ℕ} 0 1 = cc in absurd (omega arith)

@@ -1,4 +1,4 @@
-use Rattle.translate.proofs.Answers.{too_short, not-read, was_read}
+use Rattle.translate.proofs.Answers.{too_short, not_read, was_read}
 use Rattle.translate.proofs.translate.Goals as goal
 
 pub returns-then-out-lt1408 : goal.returns-then-out-lt1408
@@ -6,7 +6,7 @@ returns-then-out-lt1408 c = too_short _ _ c.if-out-lt1408.true
 
 pub returns-in-Refused : goal.returns-in-Refused
 returns-in-Refused c =
-    not-read _ _ c.if-out-lt1408.false _ _ c.check.ensures _ _ c.in-Refused.is
+    not_read _ _ c.if-out-lt1408.false _ _ c.check.ensures _ _ c.in-Refused.is
 
 pub returns-in-Whole : goal.returns-in-Whole
 returns-in-Whole c =
