@@ -6,20 +6,20 @@ use mathlib.Core.Bool.{Bool, true, false}
 use mathlib.Core.List.{List, [], ◌∷◌}
 use lib.ListN.{length, drop}
 use lib.Dec.{ltb, eqb}
+use Rattle.std.specs.Prelude.{Ok, Err}
+use Rattle.coding.specs.Refusal.{NumberRead}
 use Rattle.coding.specs.Number.{pick, Begin, number, none, first, second, third, placed, number_at}
 use Rattle.coding.specs.Code.{Code, item, end, broken, item_or, code_from, code_at}
 use Rattle.coding.specs.Refusal.{number_of}
-use Rattle.coding.specs.declared.Number.{Number}
-use Rattle.coding.specs.declared.Number.TheVariants.{Value, Fault}
 
 -- Where there is a fault, it is refusal 1: of what bytes begin with, of the number at a place, of a whole code.
 abbrev OneBegin : Begin → Type 0
 OneBegin (number v k) = Unit {0}
 OneBegin (none cause) = number_of cause ≡ 1
 
-abbrev pub OneNumber : Number → Type 0
-OneNumber (Value v next) = Unit {0}
-OneNumber (Fault cause place) = number_of cause ≡ 1
+abbrev pub OneNumber : NumberRead → Type 0
+OneNumber (Ok num) = Unit {0}
+OneNumber (Err why) = number_of why.cause ≡ 1
 
 abbrev pub OneCode : Code → Type 0
 OneCode (item p v c) = OneCode c

@@ -1,11 +1,9 @@
 pub mod Numbers
 pub mod Bytes
 pub mod Trip
-pub mod Rows
 pub mod Causes
 pub mod Loops
 pub mod Trips
-pub mod Source
 pub mod Rooms
 pub mod Grammars
 pub mod Unique

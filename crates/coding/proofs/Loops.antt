@@ -9,7 +9,7 @@ use Rattle.coding.specs.Number.{bytes_of}
 use Rattle.coding.specs.Code.{bytes_of_all}
 use Rattle.coding.specs.Room.{over}
 use Rattle.coding.proofs.Bytes.{three≥, over_append, over_length}
-use Rattle.coding.proofs.Rows.{bytes_next}
+use Rattle.coding.specs.Working.Rows.{bytes_next}
 
 module _ (xs : List ℕ) (i : ℕ) (h : i < length xs) where
   next_length : length (bytes_of_all (drop i xs)) ≡ length (bytes_of (get_or xs i 0)) + length (bytes_of_all (drop (i + 1) xs))

@@ -6,8 +6,8 @@ use mathlib.Core.Path.{◌≡◌}
 use contract.Lifetimes.{Lfts}
 use borrow.Fn.Kinds.{Dens, ended_of}
 use denote.Triple.Clauses.{AtExit}
-use Rattle.coding.specs.declared.Number.{Number}
-use Rattle.coding.specs.declared.Answer.{Answer}
+use Rattle.coding.specs.declared.Refusal.{Refusal}
+use Rattle.coding.specs.Refusal.{NumberRead, Answer}
 use Rattle.coding.proofs.Unique.{one_answer, one_storing}
 use Rattle.coding.proofs.number_of.Kinds as number_of
 use Rattle.coding.proofs.number_of.Reads as number_of_reads
@@ -17,10 +17,16 @@ use Rattle.coding.proofs.size_of.Kinds as size_of
 use Rattle.coding.proofs.size_of.Reads as size_of_reads
 use Rattle.coding.proofs.write_number.Kinds as write_number
 use Rattle.coding.proofs.write_number.Reads as write_number_reads
-use Rattle.coding.proofs.number_at.Kinds as number_at
-use Rattle.coding.proofs.number_at.Reads as number_at_reads
-use Rattle.coding.proofs.size_at.Kinds as size_at
-use Rattle.coding.proofs.size_at.Reads as size_at_reads
+use Rattle.coding.proofs.Cause.at.Kinds as at
+use Rattle.coding.proofs.Cause.at.Reads as at_reads
+use Rattle.coding.proofs.source.RefSliceU8Source.number_at.Kinds as byte_number_at
+use Rattle.coding.proofs.source.RefSliceU8Source.number_at.Reads as byte_number_at_reads
+use Rattle.coding.proofs.source.RefSliceU8Source.size.Kinds as byte_size
+use Rattle.coding.proofs.source.RefSliceU8Source.size.Reads as byte_size_reads
+use Rattle.coding.proofs.source.RefSliceU16Source.number_at.Kinds as number_at
+use Rattle.coding.proofs.source.RefSliceU16Source.number_at.Reads as number_at_reads
+use Rattle.coding.proofs.source.RefSliceU16Source.size.Kinds as size
+use Rattle.coding.proofs.source.RefSliceU16Source.size.Reads as size_reads
 use Rattle.coding.proofs.count_numbers.Kinds as count_numbers
 use Rattle.coding.proofs.count_numbers.Reads as count_numbers_reads
 use Rattle.coding.proofs.store_numbers.Kinds as store_numbers
@@ -32,19 +38,39 @@ use Rattle.coding.proofs.read_checked.Reads as read_checked_reads
 use Rattle.coding.proofs.write_checked.Kinds as write_checked
 use Rattle.coding.proofs.write_checked.Reads as write_checked_reads
 
-module _ (κs : Lfts 0) (r t : ℕ) where
-  pub number_of_unique : (a : Dens κs number_of.ps) (e f : AtExit (ended_of 0 number_of.ps number_of.r) κs) →
+module _ (κs : Lfts 0) where
+  pub number_of_unique : (r t : ℕ) (a : Dens κs number_of.ps) (e f : AtExit (ended_of 0 number_of.ps number_of.r) κs) →
       number_of_reads.Post κs a r e → number_of_reads.Post κs a t f → r ≡ t
-  number_of_unique a e f = one_answer
+  number_of_unique r t a e f = one_answer
 
-  pub size_of_unique : (a : Dens κs size_of.ps) (e f : AtExit (ended_of 0 size_of.ps size_of.r) κs) →
+  pub at_unique : (r t : Refusal) (a : Dens κs at.ps) (e f : AtExit (ended_of 0 at.ps at.r) κs) →
+      at_reads.Post κs a r e → at_reads.Post κs a t f → r ≡ t
+  at_unique r t a e f = one_answer
+
+  pub size_of_unique : (r t : ℕ) (a : Dens κs size_of.ps) (e f : AtExit (ended_of 0 size_of.ps size_of.r) κs) →
       size_of_reads.Post κs a r e → size_of_reads.Post κs a t f → r ≡ t
-  size_of_unique a e f = one_answer
+  size_of_unique r t a e f = one_answer
 
 module _ (κs : Lfts 1) where
-  pub read_number_unique : (r t : Number) (a : Dens κs read_number.ps) (e f : AtExit (ended_of 1 read_number.ps read_number.r) κs) →
+  pub read_number_unique : (r t : NumberRead) (a : Dens κs read_number.ps) (e f : AtExit (ended_of 1 read_number.ps read_number.r) κs) →
       read_number_reads.Post κs a r e → read_number_reads.Post κs a t f → r ≡ t
   read_number_unique r t a e f = one_answer
+
+  pub byte_number_at_unique : (r t : NumberRead) (a : Dens κs byte_number_at.ps) (e f : AtExit (ended_of 1 byte_number_at.ps byte_number_at.r) κs) →
+      byte_number_at_reads.Post κs a r e → byte_number_at_reads.Post κs a t f → r ≡ t
+  byte_number_at_unique r t a e f = one_answer
+
+  pub byte_size_unique : (r t : ℕ) (a : Dens κs byte_size.ps) (e f : AtExit (ended_of 1 byte_size.ps byte_size.r) κs) →
+      byte_size_reads.Post κs a r e → byte_size_reads.Post κs a t f → r ≡ t
+  byte_size_unique r t a e f = one_answer
+
+  pub number_at_unique : (r t : NumberRead) (a : Dens κs number_at.ps) (e f : AtExit (ended_of 1 number_at.ps number_at.r) κs) →
+      number_at_reads.Post κs a r e → number_at_reads.Post κs a t f → r ≡ t
+  number_at_unique r t a e f = one_answer
+
+  pub size_unique : (r t : ℕ) (a : Dens κs size.ps) (e f : AtExit (ended_of 1 size.ps size.r) κs) →
+      size_reads.Post κs a r e → size_reads.Post κs a t f → r ≡ t
+  size_unique r t a e f = one_answer
 
   pub write_number_unique : (r t : Answer) (a : Dens κs write_number.ps) (e f : AtExit (ended_of 1 write_number.ps write_number.r) κs) →
       write_number_reads.Post κs a r e → write_number_reads.Post κs a t f → (r ≡ t) × (e.1.0.now ≡ f.1.0.now)
@@ -59,14 +85,6 @@ module _ (κs : Lfts 1) where
   size_of_all_unique r t a e f = one_answer
 
 module _ (κs : Lfts 2) where
-  pub number_at_unique : (r t : Number) (a : Dens κs number_at.ps) (e f : AtExit (ended_of 2 number_at.ps number_at.r) κs) →
-      number_at_reads.Post κs a r e → number_at_reads.Post κs a t f → r ≡ t
-  number_at_unique r t a e f = one_answer
-
-  pub size_at_unique : (r t : ℕ) (a : Dens κs size_at.ps) (e f : AtExit (ended_of 2 size_at.ps size_at.r) κs) →
-      size_at_reads.Post κs a r e → size_at_reads.Post κs a t f → r ≡ t
-  size_at_unique r t a e f = one_answer
-
   pub store_numbers_unique : (r t : Unit {0}) (a : Dens κs store_numbers.ps) (e f : AtExit (ended_of 2 store_numbers.ps store_numbers.r) κs) →
       store_numbers_reads.Post κs a r e → store_numbers_reads.Post κs a t f → e.1.0.now ≡ f.1.0.now
   store_numbers_unique r t a e f = one_answer

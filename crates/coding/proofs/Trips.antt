@@ -9,7 +9,7 @@ use lib.Seq.{drop-append_seam, get_or-drop}
 use Rattle.coding.specs.Number.{bytes_of, first, Begin, number, none}
 use Rattle.coding.specs.Code.{Code, item, end, broken, item_or, first_item, code_from, code_at, values, bytes_of_all}
 use Rattle.coding.proofs.Trip.{read_written, written_read, Begins}
-use Rattle.coding.proofs.Rows.{Taken, taken}
+use Rattle.coding.specs.Working.Rows.{Taken, taken}
 use Rattle.coding.proofs.Bytes.{one≤}
 
 -- a code that is all numbers

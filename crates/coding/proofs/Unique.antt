@@ -4,8 +4,8 @@
 use Prim.Native.Nat.{ℕ}
 use mathlib.Core.Path.{◌≡◌, sym, ◌∙◌}
 use mathlib.Core.List.{List}
+use Rattle.coding.specs.Refusal.{Answer}
 use Rattle.coding.specs.Room.{stored}
-use Rattle.coding.specs.declared.Answer.{Answer}
 
 pub one_answer : {A : Type 0} {wanted r s : A} → r ≡ wanted → s ≡ wanted → r ≡ s
 one_answer p q = p ∙ sym q

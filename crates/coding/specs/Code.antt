@@ -1,11 +1,11 @@
 -- A code as a row of numbers, each with its place: what every check goes over, whether it reads bytes (a place is a byte) or is handed numbers (a place is an index).
 -- Assumes nothing: these are definitions.
-use Rattle.std.specs.Prelude.{ℕ, zero, suc, ◌+◌, List, [], ◌∷◌, ◌++◌, Bool, length, drop, get_or, ltb}
+use Rattle.std.specs.Prelude.{◌≡◌, ℕ, zero, suc, ◌+◌, ◌≤◌, ◌<◌, ◌⊎◌, List, [], ◌∷◌, ◌++◌, length, drop, get_or, ltb}
 use Rattle.coding.specs.Number.{Begin, number, none, first, bytes_of, pick, number_at}
 use Rattle.coding.specs.declared.Cause.{Cause}
 use Rattle.coding.specs.declared.Cause.TheVariants.{CutShort}
-use Rattle.coding.specs.declared.Number.{Number}
-use Rattle.coding.specs.declared.Number.TheVariants.{Value, Fault}
+use Rattle.std.specs.Prelude.{Ok, Err}
+use Rattle.coding.specs.Refusal.{NumberRead, value_then, refused_at}
 
 pub data Code : Type 0 where
   -- a number at a place, and what follows
@@ -49,14 +49,34 @@ abbrev pub bytes_of_all : List ℕ → List ℕ
 bytes_of_all [] = []
 bytes_of_all (v ∷ vs) = bytes_of v ++ bytes_of_all vs
 
--- The source of a check: the bytes s, or the numbers xs.
-unfoldable pub source_at : Bool → List ℕ → List ℕ → ℕ → Code
-source_at from_bytes s xs at = pick from_bytes (code_at s at) (numbered at (drop at xs))
+-- A source of numbers, for a check that is written once for bytes and for numbers: the code from each place on, how many places there are, and the number at each.
+pub record Places : Type 0 where
+  pub code : ℕ → Code
+  pub size : ℕ
+  pub number : ℕ → NumberRead
 
-unfoldable pub source_number : Bool → List ℕ → List ℕ → ℕ → Number
-source_number from_bytes s xs at =
-    pick from_bytes (number_at s at)
-    (pick (ltb at (length xs)) (Value (get_or xs at 0) (at + 1)) (Fault CutShort at))
+-- The bytes s: a place is a byte.
+abbrev pub places_of_bytes : List ℕ → Places
+places_of_bytes s = record { code = code_at s; size = length s; number = number_at s }
 
-unfoldable pub source_size : Bool → List ℕ → List ℕ → ℕ
-source_size from_bytes s xs = pick from_bytes (length s) (length xs)
+-- The number at an index of the numbers xs.
+unfoldable pub number_in : List ℕ → ℕ → NumberRead
+number_in xs at = pick (ltb at (length xs)) (value_then (get_or xs at 0) (at + 1)) (refused_at CutShort at)
+
+-- The numbers xs: a place is an index.
+unfoldable pub numbers_from : List ℕ → ℕ → Code
+numbers_from xs at = numbered at (drop at xs)
+
+abbrev pub places_of_numbers : List ℕ → Places
+places_of_numbers xs = record { code = numbers_from xs; size = length xs; number = number_in xs }
+
+-- What the number at a place says of the code there: it is the code's next number, the code goes on at the place after it, and that is a later one; or the
+-- code is at its end there, or is broken.
+abbrev pub Turn : Places → ℕ → NumberRead → Type 0
+Turn source p (Ok num) = (source.code p ≡ item p num.value (source.code num.next)) × (p < num.next) × (num.next ≤ source.size)
+Turn source p (Err why) =
+    (why.place ≡ p)
+    × (((source.size ≤ p) × (why.cause ≡ CutShort) × (source.code p ≡ end p)) ⊎ ((p < source.size) × (source.code p ≡ broken why.cause p)))
+
+abbrev pub Turns : Places → Type 0
+Turns source = (p : ℕ) → Turn source p (source.number p)

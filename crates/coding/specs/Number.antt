@@ -3,8 +3,7 @@
 use Rattle.std.specs.Prelude.{ℕ, ◌+◌, ◌-◌, ◌*◌, ◌/◌, ◌%◌, List, [], ◌∷◌, Bool, true, false, drop, ltb, eqb}
 use Rattle.coding.specs.declared.Cause.{Cause}
 use Rattle.coding.specs.declared.Cause.TheVariants.{CutShort, NotShortest, TooLarge}
-use Rattle.coding.specs.declared.Number.{Number}
-use Rattle.coding.specs.declared.Number.TheVariants.{Value, Fault}
+use Rattle.coding.specs.Refusal.{NumberRead, value_then, refused_at}
 
 abbrev pub pick {ℓ} : {A : Type ℓ} → Bool → A → A → A
 pick true a b = a
@@ -37,9 +36,9 @@ first [] = none CutShort
 first (a ∷ rest) = pick (ltb a 128) (number a 1) (second (a - 128) rest)
 
 -- The number at a place of the bytes s. "a number's fault stands at its first byte", and a missing number where it should begin.
-abbrev pub placed : ℕ → Begin → Number
-placed at (number v k) = Value v (at + k)
-placed at (none cause) = Fault cause at
+abbrev pub placed : ℕ → Begin → NumberRead
+placed at (number v k) = value_then v (at + k)
+placed at (none cause) = refused_at cause at
 
-unfoldable pub number_at : List ℕ → ℕ → Number
+unfoldable pub number_at : List ℕ → ℕ → NumberRead
 number_at s at = placed at (first (drop at s))

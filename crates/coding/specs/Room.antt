@@ -5,8 +5,8 @@ use Rattle.std.proofs.lemmas.List.Edits.{sets}
 use Rattle.coding.specs.Number.{pick, bytes_of}
 use Rattle.coding.specs.Code.{Code, code_at, numbered, bytes_of_all}
 use Rattle.coding.specs.declared.Cause.TheVariants.{ShortBuffer}
-use Rattle.coding.specs.declared.Answer.{Answer}
-use Rattle.coding.specs.declared.Answer.TheVariants.{Count, Refused}
+use Rattle.std.specs.Prelude.{Ok, Err}
+use Rattle.coding.specs.Refusal.{Answer, refused_at}
 
 -- A buffer d with the elements xs from `at` on, its others as they were.
 unfoldable pub over : List ℕ → ℕ → List ℕ → List ℕ
@@ -14,18 +14,18 @@ over d at xs = sets d at xs
 
 -- "In both 10 comes last": so many elements are lent.
 abbrev pub settled : ℕ → Answer → Answer
-settled room (Count n) = pick (leb n room) (Count n) (Refused ShortBuffer n)
-settled room (Refused cause place) = Refused cause place
+settled room (Ok n) = pick (leb n room) (Ok n) (refused_at ShortBuffer n)
+settled room (Err why) = Err why
 
 -- An accepted code counted anew: the writer counts bytes.
 abbrev pub resized : ℕ → Answer → Answer
-resized m (Count n) = Count m
-resized m (Refused cause place) = Refused cause place
+resized m (Ok n) = Ok m
+resized m (Err why) = Err why
 
 -- What a lent buffer holds after an answer: "1 to 4 and 9 to 11 change no buffer", and "the rest of the buffer is unchanged".
 abbrev pub stored : Answer → List ℕ → List ℕ → List ℕ
-stored (Count n) d xs = over d 0 xs
-stored (Refused cause place) d xs = d
+stored (Ok n) d xs = over d 0 xs
+stored (Err why) d xs = d
 
 -- Reading and writing by any grammar, which answers for a row how many numbers it has, or its first fault.
 abbrev pub read_by : (Code → Answer) → List ℕ → List ℕ → Answer
@@ -36,4 +36,4 @@ write_by grammar xs buf = settled (length buf) (resized (length (bytes_of_all xs
 
 -- One number into a buffer.
 unfoldable pub wrote_number : ℕ → List ℕ → Answer
-wrote_number v buf = settled (length buf) (Count (length (bytes_of v)))
+wrote_number v buf = settled (length buf) (Ok (length (bytes_of v)))

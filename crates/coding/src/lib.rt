@@ -1,14 +1,18 @@
 // The coding: one number, rows of numbers with their places, and what a reader or a writer refuses.
 #![tactic(auto)]
 
+mod source;
+
 ghost use Rattle.std.specs.Prelude.{◌≡◌, ◌+◌, ◌≤◌, length};
 ghost use Rattle.coding.specs.Refusal.{number_of};
 ghost use Rattle.coding.specs.Number.{number_at, bytes_of};
-ghost use Rattle.coding.specs.Code.{code_at, values, bytes_of_all, source_number, source_size};
+ghost use Rattle.coding.specs.Code.{code_at, values, bytes_of_all};
 ghost use Rattle.coding.specs.Room.{over, settled, resized, stored, wrote_number};
 
+pub use source::Source;
+
 // Why something is refused: a case for each row of the table of refusals, and four for its first row.
-#[derive(Clone, Copy)]
+#[derive(Clone, Copy, Debug, PartialEq, Eq)]
 pub enum Cause {
     CutShort,
     NotShortest,
@@ -26,19 +30,22 @@ pub enum Cause {
     NameAbsent,
 }
 
-// What reading a number finds: its value and the place after it, or why there is none and where.
-#[derive(Clone, Copy)]
-pub enum Number {
-    Value(u16, usize),
-    Fault(Cause, usize),
+// Why something is refused, and at which place: a byte, an index, or what document 01 names for the cause.
+#[derive(Clone, Copy, Debug, PartialEq, Eq)]
+pub struct Refusal {
+    pub cause: Cause,
+    pub place: usize,
 }
 
-// What a reader, a writer or a check of a whole code answers: how many numbers or bytes, or a refusal and its place.
-#[derive(Clone, Copy)]
-pub enum Answer {
-    Count(usize),
-    Refused(Cause, usize),
+// A number that was read: its value, and the place after it.
+#[derive(Clone, Copy, Debug, PartialEq, Eq)]
+pub struct Number {
+    pub value: u16,
+    pub next: usize,
 }
+
+// What a reader, a writer or a check of a whole code answers: how many numbers or bytes, or a refusal.
+pub type Answer = Result<usize, Refusal>;
 
 // An answer in the paper's numbers, for callers outside: the number of the refusal and its place, or 0 and what was found.
 #[repr(C)]
@@ -47,6 +54,15 @@ pub struct Told {
     pub refusal: u64,
     pub first: u64,
     pub second: u64,
+}
+
+impl Cause {
+    // The refusal of this cause at a place.
+    pub fn at(self, place: usize) -> Refusal
+        ensures { result ≡ record { cause = self; place = place } }
+    {
+        Refusal { cause: self, place }
+    }
 }
 
 // The paper's number of a cause.
@@ -72,44 +88,50 @@ pub fn number_of(cause: Cause) -> u8
 }
 
 // The number whose first byte is at `at`.
-pub fn read_number(code: &[u8], at: usize) -> Number
+pub fn read_number(code: &[u8], at: usize) -> Result<Number, Refusal>
     ensures { result ≡ number_at code.now at }
 {
     if code.len() <= at {
-        return Number::Fault(Cause::CutShort, at);
+        return Err(Cause::CutShort.at(at));
     }
     let a = code[at] as u16;
     let i = at + 1;
     if a < 128 {
-        return Number::Value(a, i);
+        return Ok(Number { value: a, next: i });
     }
     if code.len() <= i {
-        return Number::Fault(Cause::CutShort, at);
+        return Err(Cause::CutShort.at(at));
     }
     let b = code[i] as u16;
     if b == 0 {
-        return Number::Fault(Cause::NotShortest, at);
+        return Err(Cause::NotShortest.at(at));
     }
     let j = i + 1;
     let low = a - 128;
     if b < 128 {
         let two = low + b * 128;
-        return Number::Value(two, j);
+        return Ok(Number {
+            value: two,
+            next: j,
+        });
     }
     if code.len() <= j {
-        return Number::Fault(Cause::CutShort, at);
+        return Err(Cause::CutShort.at(at));
     }
     let c = code[j] as u16;
     if c == 0 {
-        return Number::Fault(Cause::NotShortest, at);
+        return Err(Cause::NotShortest.at(at));
     }
     if 3 < c {
-        return Number::Fault(Cause::TooLarge, at);
+        return Err(Cause::TooLarge.at(at));
     }
     let two = low + (b - 128) * 128;
     let three = two + c * 16384;
     let next = j + 1;
-    Number::Value(three, next)
+    Ok(Number {
+        value: three,
+        next: next,
+    })
 }
 
 // How many bytes a number takes.
@@ -150,33 +172,10 @@ pub fn write_number(v: u16, buf: &mut [u8]) -> Answer
 {
     let n = size_of(v);
     if buf.len() < n {
-        return Answer::Refused(Cause::ShortBuffer, n);
+        return Err(Cause::ShortBuffer.at(n));
     }
     put(v, buf, 0);
-    Answer::Count(n)
-}
-
-// The number at a place of the source: of bytes, or of a row of numbers, where a place is an index. So every check is written once for both.
-pub fn number_at(from_bytes: bool, code: &[u8], numbers: &[u16], at: usize) -> Number
-    ensures { result ≡ source_number from_bytes code.now numbers.now at }
-{
-    if from_bytes {
-        return read_number(code, at);
-    }
-    if at < numbers.len() {
-        return Number::Value(numbers[at], at + 1);
-    }
-    Number::Fault(Cause::CutShort, at)
-}
-
-// How many bytes or numbers the source has.
-pub fn size_at(from_bytes: bool, code: &[u8], numbers: &[u16]) -> usize
-    ensures { result ≡ source_size from_bytes code.now numbers.now }
-{
-    if from_bytes {
-        return code.len();
-    }
-    numbers.len()
+    Ok(n)
 }
 
 // How many numbers the code has, up to its first fault.
@@ -185,17 +184,11 @@ pub fn count_numbers(code: &[u8]) -> usize
 {
     let mut at: usize = 0;
     let mut n: usize = 0;
-    loop {
-        match read_number(code, at) {
-            Number::Fault(_, _) => {
-                return n;
-            }
-            Number::Value(_, next) => {
-                at = next;
-                n += 1;
-            }
-        }
+    while let Ok(number) = read_number(code, at) {
+        n += 1;
+        at = number.next;
     }
+    n
 }
 
 // Stores the code's numbers, from the first on, until the code or the room ends.
@@ -203,18 +196,12 @@ pub fn store_numbers(code: &[u8], out: &mut [u16])
     ensures { out.new ≡ over out.old 0 (values (code_at code.now 0)) }
 {
     let mut at: usize = 0;
-    let mut i: usize = 0;
-    while i < out.len() {
-        match read_number(code, at) {
-            Number::Fault(_, _) => {
-                return;
-            }
-            Number::Value(v, next) => {
-                out[i] = v;
-                at = next;
-                i += 1;
-            }
-        }
+    for element in out.iter_mut() {
+        let Ok(number) = read_number(code, at) else {
+            return;
+        };
+        *element = number.value;
+        at = number.next;
     }
 }
 
@@ -223,10 +210,8 @@ pub fn size_of_all(numbers: &[u16]) -> usize
     ensures { result ≡ length (bytes_of_all numbers.now) }
 {
     let mut n: usize = 0;
-    let mut i: usize = 0;
-    while i < numbers.len() {
-        n += size_of(numbers[i]);
-        i += 1;
+    for v in numbers {
+        n += size_of(*v);
     }
     n
 }
@@ -237,10 +222,8 @@ fn store_bytes(numbers: &[u16], buf: &mut [u8])
     ensures { buf.new ≡ over buf.old 0 (bytes_of_all numbers.now) }
 {
     let mut at: usize = 0;
-    let mut i: usize = 0;
-    while i < numbers.len() {
-        at = put(numbers[i], buf, at);
-        i += 1;
+    for v in numbers {
+        at = put(*v, buf, at);
     }
 }
 
@@ -249,16 +232,12 @@ pub fn read_checked(checked: Answer, code: &[u8], out: &mut [u16]) -> Answer
     ensures { (result ≡ settled (length out.old) checked)
         × (out.new ≡ stored result out.old (values (code_at code.now 0))) }
 {
-    match checked {
-        Answer::Refused(cause, place) => Answer::Refused(cause, place),
-        Answer::Count(n) => {
-            if out.len() < n {
-                return Answer::Refused(Cause::ShortBuffer, n);
-            }
-            store_numbers(code, out);
-            Answer::Count(n)
-        }
+    let n = checked?;
+    if out.len() < n {
+        return Err(Cause::ShortBuffer.at(n));
     }
+    store_numbers(code, out);
+    Ok(n)
 }
 
 // The end of every writer: what was checked is stored, if there is room for its bytes.
@@ -266,15 +245,11 @@ pub fn write_checked(checked: Answer, numbers: &[u16], buf: &mut [u8]) -> Answer
     ensures { (result ≡ settled (length buf.old) (resized (length (bytes_of_all numbers.now)) checked))
         × (buf.new ≡ stored result buf.old (bytes_of_all numbers.now)) }
 {
-    match checked {
-        Answer::Refused(cause, place) => Answer::Refused(cause, place),
-        Answer::Count(_) => {
-            let n = size_of_all(numbers);
-            if buf.len() < n {
-                return Answer::Refused(Cause::ShortBuffer, n);
-            }
-            store_bytes(numbers, buf);
-            Answer::Count(n)
-        }
+    checked?;
+    let n = size_of_all(numbers);
+    if buf.len() < n {
+        return Err(Cause::ShortBuffer.at(n));
     }
+    store_bytes(numbers, buf);
+    Ok(n)
 }

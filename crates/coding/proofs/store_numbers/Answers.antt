@@ -1,19 +1,22 @@
-use mathlib.Core.Path.{sym, ◌∙◌}
-use lib.ListN.{length-set}
+use Prim.Native.Nat.{◌≤◌}
+use native.Mathlib.Omega.{arith}
+use Rattle.std.proofs.lemmas.List.{set-get_or}
+use lib.ListN.{length, length-set}
 use Rattle.coding.proofs.Bytes.{over_cons, over_nil, over_full}
-use Rattle.coding.proofs.Rows.{no_values, next_values}
+use Rattle.coding.specs.Working.Rows.{no_values, next_values}
 use Rattle.coding.proofs.store_numbers.Goals as goal
 
-pub returns-in-Fault : goal.returns-in-Fault
-returns-in-Fault c =
-    let e = sym c.in-Fault.is ∙ c.read_number.ensures in
-    rw (← c.loop-i.invariant.0, no_values _ _ _ _ e, over_nil)
+pub returns-in_default : goal.returns-in_default
+returns-in_default c =
+    let e = c.in_default.ensures in
+    rw (← c.loop-element.invariant.0, no_values _ _ _ _ e, over_nil) (set-get_or _ _ 0)
 
-pub loop-i-preserved : goal.loop-i-preserved
-loop-i-preserved c =
-    let e = sym c.in-Value.is ∙ c.read_number.ensures in
-    (rw (← c.loop-i.invariant.0, next_values _ _ _ _ e, over_cons), simp length-set c.loop-i.invariant.1)
+pub loop-element-preserved : goal.loop-element-preserved
+loop-element-preserved c =
+    let e = c.in-Ok.ensures in
+    (rw (← c.loop-element.invariant.0, next_values _ _ _ _ e, over_cons), simp length-set c.loop-element.invariant.1)
 
 pub returns : goal.returns
 returns c =
-    rw (← c.loop-i.invariant.0, over_full _ _ _ c.loop-i-test.false)
+    let h : length c.loop-element.out ≤ c.loop-element.element-index = omega (arith, c.loop-element.invariant.1, c.loop-element-test.false) in
+    rw (← c.loop-element.invariant.0, over_full _ _ _ h)

@@ -1,6 +1,7 @@
 -- The row of numbers that a code's bytes are, a number at a time.
 -- Assumes nothing.
 use Prim.Native.Nat.{ℕ, zero, suc, ◌+◌, ◌-◌, ◌≤◌, ◌<◌}
+use native.Mathlib.Numerals.{add-one}
 use native.Mathlib.Omega.{arith}
 use native.Mathlib.Nat.{le_refl}
 use mathlib.Core.Path.{◌≡◌, refl, ◌∙◌, ap}
@@ -8,15 +9,17 @@ use mathlib.Core.Logic.{◌⊎◌, inl, inr, ⊎_elim}
 use mathlib.Core.List.{List, [], ◌∷◌, ◌++◌}
 use mathlib.Core.Bool.{Bool, true, false}
 use lib.ListN.{length, get_or, drop, length-drop, drop_of_length-le}
-use lib.Seq.{drop-drop}
+use lib.Seq.{drop-drop, drop-cons}
 use lib.Dec.{ltb, eqb}
+use Rattle.std.specs.Prelude.{Ok, Err}
+use Rattle.coding.specs.Refusal.{NumberRead, value_then, refused_at}
 use Rattle.coding.specs.Number.{first, second, third, pick, Begin, number, none, number_at, placed, bytes_of}
-use Rattle.coding.proofs.Numbers.{drop_at}
 use Rattle.coding.specs.Code.{item, end, broken, item_or, code_from, code_at, values, bytes_of_all}
 use Rattle.coding.specs.declared.Cause.{Cause}
 use Rattle.coding.specs.declared.Cause.TheVariants.{CutShort}
-use Rattle.coding.specs.declared.Number.{Number}
-use Rattle.coding.specs.declared.Number.TheVariants.{Value, Fault}
+
+pub drop_at : (s : List ℕ) (i : ℕ) → i < length s → drop i s ≡ get_or s i 0 ∷ drop (i + 1) s
+drop_at s i h = rw (add-one, drop-cons s i 0)
 
 -- a number takes a byte at least, and none that is not there
 abbrev pub Taken : ℕ → Begin → Type 0
@@ -67,9 +70,9 @@ abbrev OfNum : List ℕ → ℕ → Begin → Type 0
 OfNum s p (number v k) = (code_at s p ≡ item p v (code_at s (p + k))) × (1 ≤ k) × (k ≤ length (drop p s))
 OfNum s p (none cause) = Stops s p cause
 
-abbrev pub Row : List ℕ → ℕ → Number → Type 0
-Row s p (Value v n) = (code_at s p ≡ item p v (code_at s n)) × (p < n) × (n ≤ length s)
-Row s p (Fault cause q) = (q ≡ p) × Stops s p cause
+abbrev pub Row : List ℕ → ℕ → NumberRead → Type 0
+Row s p (Ok num) = (code_at s p ≡ item p num.value (code_at s num.next)) × (p < num.next) × (num.next ≤ length s)
+Row s p (Err why) = (why.place ≡ p) × Stops s p why.cause
 
 module _ (s : List ℕ) (p : ℕ) where
   code_nil : drop p s ≡ [] → code_at s p ≡ end p
@@ -105,15 +108,15 @@ module _ (s : List ℕ) (p : ℕ) where
 
 -- ---- what a loop over a code's numbers goes by
 module _ (s : List ℕ) (p : ℕ) where
-  pub next_row : (v n : ℕ) → Value v n ≡ number_at s p → (code_at s p ≡ item p v (code_at s n)) × (p < n) × (n ≤ length s)
+  pub next_row : (v n : ℕ) → value_then v n ≡ number_at s p → (code_at s p ≡ item p v (code_at s n)) × (p < n) × (n ≤ length s)
   next_row v n e = rw (← e) at (row s p)
 
-  pub no_values : (cause : Cause) (q : ℕ) → Fault cause q ≡ number_at s p → values (code_at s p) ≡ []
+  pub no_values : (cause : Cause) (q : ℕ) → refused_at cause q ≡ number_at s p → values (code_at s p) ≡ []
   no_values cause q e =
-      let r : Row s p (Fault cause q) = rw (← e) at (row s p) in
+      let r : Row s p (refused_at cause q) = rw (← e) at (row s p) in
       ⊎_elim (λ o. rw o.2) (λ o. rw o.1) r.1
 
-  pub next_values : (v n : ℕ) → Value v n ≡ number_at s p → values (code_at s p) ≡ v ∷ values (code_at s n)
+  pub next_values : (v n : ℕ) → value_then v n ≡ number_at s p → values (code_at s p) ≡ v ∷ values (code_at s n)
   next_values v n e = rw (next_row v n e).0
 
 -- ---- and one over the bytes of a row of numbers
