@@ -9,3 +9,4 @@ pub mod Grammars
 pub mod Unique
 pub mod OneEach
 pub mod Examples
+pub mod Refusing

@@ -2,6 +2,7 @@
 -- Assumes nothing.
 use Prim.Native.Nat.{◌≤◌}
 use mathlib.Core.Path.{◌≡◌, refl}
+use Rattle.std.specs.Prelude.{Some}
 use Rattle.requirement.specs.Requirement.{Requirement, atom, mark, one, two}
 use Rattle.requirement.specs.Tags.{tag_of, mark_no, one_no, two_no}
 use Rattle.requirement.specs.Limits.{tag_in, Allowed}
@@ -17,7 +18,7 @@ use Rattle.requirement.specs.declared.Two.{Two}
 use Rattle.requirement.specs.declared.Two.TheVariants.{And, Until}
 use Rattle.requirement.specs.declared.Tag.TheVariants.{Mark, OverOne, OverTwo}
 
-pub mark_has : (kind : Kind) (p : Phase) → tag_in kind (mark_no p) ≡ Mark p
+pub mark_has : (kind : Kind) (p : Phase) → tag_in kind (mark_no p) ≡ Some (Mark p)
 unfolding tag_in tag_of
 mark_has Untranslated Input = refl
 mark_has Untranslated Exe = refl
@@ -26,7 +27,7 @@ mark_has Translated Input = refl
 mark_has Translated Exe = refl
 mark_has Translated Output = refl
 
-pub one_has : (o : One) → tag_in Untranslated (one_no o) ≡ OverOne o
+pub one_has : (o : One) → tag_in Untranslated (one_no o) ≡ Some (OverOne o)
 unfolding tag_in tag_of
 one_has Not = refl
 one_has (Next Plain) = refl
@@ -42,7 +43,7 @@ one_has (Always Within) = refl
 one_has (Always (Each Reads)) = refl
 one_has (Always (Each Writes)) = refl
 
-pub two_has : (o : Two) → tag_in Untranslated (two_no o) ≡ OverTwo o
+pub two_has : (o : Two) → tag_in Untranslated (two_no o) ≡ Some (OverTwo o)
 unfolding tag_in tag_of
 two_has And = refl
 two_has (Until Plain) = refl

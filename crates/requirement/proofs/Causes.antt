@@ -5,6 +5,7 @@ use native.Mathlib.Omega.{arith}
 use mathlib.Core.Path.{◌≡◌}
 use mathlib.Core.List.{List}
 use lib.Dec.{ltb, eqb}
+use Rattle.std.specs.Prelude.{Option, Some, None}
 use Rattle.coding.specs.Code.{Code, item, end, broken, code_at}
 use Rattle.coding.specs.Refusal.{number_of}
 use Rattle.coding.specs.declared.Cause.{Cause}
@@ -15,7 +16,7 @@ use Rattle.requirement.specs.Reading.{Got, got, refused, and_then, atom_of, past
 use Rattle.requirement.specs.Reading.{Parsed, whole, unread, whole_of, parsed}
 use Rattle.requirement.specs.declared.Kind.{Kind}
 use Rattle.requirement.specs.declared.Tag.{Tag}
-use Rattle.requirement.specs.declared.Tag.TheVariants.{Atom, Mark, OverOne, OverTwo, Unknown}
+use Rattle.requirement.specs.declared.Tag.TheVariants.{Atom, Mark, OverOne, OverTwo}
 
 -- The numbers that a requirement is refused by.
 pub data NotRequirement : ℕ → Type 0 where
@@ -35,12 +36,9 @@ NamedParsed (unread cause place) = NotRequirement (number_of cause)
 named_fault : (cause : Cause) → number_of cause ≡ 1 → NotRequirement (number_of cause)
 named_fault cause e = rw e no_number
 
-named_past : (t : Tag) → NotRequirement (number_of (past_of t))
-named_past Unknown = no_node
-named_past Atom = past_limit
-named_past (Mark p) = past_limit
-named_past (OverOne o) = past_limit
-named_past (OverTwo o) = past_limit
+named_past : (t : Option Tag) → NotRequirement (number_of (past_of t))
+named_past None = no_node
+named_past (Some tag) = past_limit
 
 named_atom : (left : ℕ) (c : Code) → OneCode c → NamedGot (atom_of left c)
 unfolding atom_of
@@ -54,13 +52,13 @@ named_then (got f left c) k o h = h f left c o
 named_then (refused cause place) k o h = o
 
 named_tag : (sub : ℕ → Code → Got) → ((n : ℕ) (d : Code) → OneCode d → NamedGot (sub n d)) →
-    (p : ℕ) (t : Tag) (left : ℕ) (c : Code) → OneCode c → NamedGot (by_tag sub p t left c)
-named_tag sub h p Unknown left c o = no_node
-named_tag sub h p Atom left c o = named_atom left c o
-named_tag sub h p (Mark m) left c o = o
-named_tag sub h p (OverOne q) left c o =
+    (p : ℕ) (t : Option Tag) (left : ℕ) (c : Code) → OneCode c → NamedGot (by_tag sub p t left c)
+named_tag sub h p None left c o = no_node
+named_tag sub h p (Some Atom) left c o = named_atom left c o
+named_tag sub h p (Some (Mark m)) left c o = o
+named_tag sub h p (Some (OverOne q)) left c o =
     named_then (sub left c) (λ f n d. got (one q f) n d) (h left c o) (λ f n d z. z)
-named_tag sub h p (OverTwo q) left c o =
+named_tag sub h p (Some (OverTwo q)) left c o =
     named_then (sub left c) (λ f n d. and_then (sub n d) (λ g m e. got (two q f g) m e)) (h left c o)
     (λ f n d z. named_then (sub n d) (λ g m e. got (two q f g) m e) (h n d z) (λ g m e y. y))
 

@@ -5,6 +5,7 @@ use native.Mathlib.Omega.{arith}
 use mathlib.Core.Path.{◌≡◌, refl, sym, ◌∙◌, ap}
 use mathlib.Core.List.{List, [], ◌∷◌, ◌++◌, append-nil, append_assoc}
 use borrow.Author.Tests.{le-ltb}
+use Rattle.std.specs.Prelude.{Some}
 use Rattle.coding.specs.Code.{Code, item, end, broken, values, numbered, code_at, bytes_of_all}
 use Rattle.coding.proofs.Trips.{Clean, read_back}
 use Rattle.coding.proofs.Grammars.{numbered_is}
@@ -59,7 +60,7 @@ first_number (item p w c) v vs e k =
 first_number (end p) v vs e k = let z : ◌≡◌ {A = ℕ} 0 1 = cc in absurd (omega arith)
 first_number (broken cause p) v vs e k = absurd k
 
-atom_tag : (kind : Kind) → tag_in kind 0 ≡ Atom
+atom_tag : (kind : Kind) → tag_in kind 0 ≡ Some Atom
 unfolding tag_in tag_of
 atom_tag Untranslated = refl
 atom_tag Translated = refl
@@ -78,7 +79,7 @@ module _ (kind : Kind) (depth after : ℕ) (h : 1 ≤ depth) {c : Code} {v : ℕ
       let n : more - 1 ≡ left = omega arith in
       ap (tree_of kind depth more) i.row ∙ opened kind depth more i.place v i.rest (λ z. omega arith) (λ z. omega arith) ∙ rw n
 
-  read_atom : (k : ℕ) {vs : List ℕ} → k ≤ 31 → tag_in kind v ≡ Atom → First i.rest k vs → Read kind depth (after + nodes_of (atom k)) c (atom k) after vs
+  read_atom : (k : ℕ) {vs : List ℕ} → k ≤ 31 → tag_in kind v ≡ Some Atom → First i.rest k vs → Read kind depth (after + nodes_of (atom k)) c (atom k) after vs
   unfolding nodes_of atom_of
   read_atom k l t j = record {
     rest = j.rest;
@@ -87,11 +88,11 @@ module _ (kind : Kind) (depth after : ℕ) (h : 1 ≤ depth) {c : Code} {v : ℕ
     clean = j.clean;
   }
 
-  read_mark : (p : Phase) → tag_in kind v ≡ Mark p → Read kind depth (after + nodes_of (mark p)) c (mark p) after us
+  read_mark : (p : Phase) → tag_in kind v ≡ Some (Mark p) → Read kind depth (after + nodes_of (mark p)) c (mark p) after us
   unfolding nodes_of
   read_mark p t = record { rest = i.rest; read = by_first after (after + 1) (omega arith) ∙ rw t; follow = i.follow; clean = i.clean }
 
-  read_one : (o : One) (f : Requirement) {vs : List ℕ} → tag_in kind v ≡ OverOne o → Read kind (depth - 1) (after + nodes_of f) i.rest f after vs →
+  read_one : (o : One) (f : Requirement) {vs : List ℕ} → tag_in kind v ≡ Some (OverOne o) → Read kind (depth - 1) (after + nodes_of f) i.rest f after vs →
       Read kind depth (after + nodes_of (one o f)) c (one o f) after vs
   unfolding nodes_of
   read_one o f t r = record {
@@ -101,7 +102,7 @@ module _ (kind : Kind) (depth after : ℕ) (h : 1 ≤ depth) {c : Code} {v : ℕ
     clean = r.clean;
   }
 
-  read_two : (o : Two) (f g : Requirement) {ws vs : List ℕ} → tag_in kind v ≡ OverTwo o → (r : Read kind (depth - 1) (after + nodes_of g + nodes_of f) i.rest f (after + nodes_of g) ws) →
+  read_two : (o : Two) (f g : Requirement) {ws vs : List ℕ} → tag_in kind v ≡ Some (OverTwo o) → (r : Read kind (depth - 1) (after + nodes_of g + nodes_of f) i.rest f (after + nodes_of g) ws) →
       Read kind (depth - 1) (after + nodes_of g) r.rest g after vs → Read kind depth (after + nodes_of (two o f g)) c (two o f g) after vs
   unfolding nodes_of
   read_two o f g t r s = record {

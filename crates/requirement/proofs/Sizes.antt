@@ -6,8 +6,8 @@ use mathlib.Core.Path.{◌≡◌, refl, sym, ◌∙◌, ap}
 use lib.ListN.{length, get_or, length-append}
 use mathlib.Core.List.{List}
 use lib.Dec.{lit≤}
+use Rattle.std.specs.Prelude.{Ok, Some}
 use Rattle.coding.specs.Code.{Code, code_at, bytes_of_all}
-use Rattle.coding.specs.declared.Answer.TheVariants.{Count}
 use Rattle.coding.proofs.Trips.{write_back}
 use Rattle.requirement.specs.Requirement.{Requirement, atom, mark, one, two, nodes_of, depth_of}
 use Rattle.requirement.specs.Tags.{tag_of, code_of, one_no, two_no}
@@ -40,16 +40,16 @@ translated_numbers f fits = omega (arith, code_length f, fits.nodes)
 
 -- what a reader accepts is so many numbers
 read_numbers : (kind : Kind) (most : ℕ) → ((f : Requirement) → Fits kind f → length (code_of f) ≤ most) →
-    (c : Code) (n : ℕ) → grammar kind c ≡ Count n → n ≤ most
+    (c : Code) (n : ℕ) → grammar kind c ≡ Ok n → n ≤ most
 read_numbers kind most few c n e =
     let (f, p, count) = accepted kind c n e in
     let (code, clean, fits) = read_is_code kind c f p in
     omega (arith, few f fits, ap length code)
 
-pub untranslated_size : (c : Code) (n : ℕ) → grammar Untranslated c ≡ Count n → n ≤ 96
+pub untranslated_size : (c : Code) (n : ℕ) → grammar Untranslated c ≡ Ok n → n ≤ 96
 untranslated_size = read_numbers Untranslated 96 untranslated_numbers
 
-pub translated_size : (c : Code) (n : ℕ) → grammar Translated c ≡ Count n → n ≤ 1056
+pub translated_size : (c : Code) (n : ℕ) → grammar Translated c ≡ Ok n → n ≤ 1056
 translated_size = read_numbers Translated 1056 translated_numbers
 
 -- ---- the bytes: each number of an accepted requirement is its own byte
@@ -59,7 +59,7 @@ module _ (kind : Kind) (s : List ℕ) (bytes : (i : ℕ) → get_or s i 0 < 256)
       let (code, clean, fits) = read_is_code kind (code_at s 0) f e in
       sym (write_back s bytes clean) ∙ ap bytes_of_all code ∙ own_bytes kind f fits.allowed
 
-  pub as_many_bytes : (n : ℕ) → grammar kind (code_at s 0) ≡ Count n → length s ≡ n
+  pub as_many_bytes : (n : ℕ) → grammar kind (code_at s 0) ≡ Ok n → length s ≡ n
   as_many_bytes n e =
       let (f, p, count) = accepted kind (code_at s 0) n e in
       ap length (bytes_are_numbers f p ∙ sym (read_is_code kind (code_at s 0) f p).0) ∙ sym count
@@ -69,12 +69,12 @@ abbrev full : ℕ → Requirement
 full zero = atom 0
 full (suc k) = two And (full k) (full k)
 
-and_has : (kind : Kind) → tag_in kind (two_no And) ≡ OverTwo And
+and_has : (kind : Kind) → tag_in kind (two_no And) ≡ Some (OverTwo And)
 unfolding tag_in tag_of
 and_has Untranslated = refl
 and_has Translated = refl
 
-not_has : (kind : Kind) → tag_in kind (one_no Not) ≡ OverOne Not
+not_has : (kind : Kind) → tag_in kind (one_no Not) ≡ Some (OverOne Not)
 unfolding tag_in tag_of
 not_has Untranslated = refl
 not_has Translated = refl

@@ -8,6 +8,7 @@ use mathlib.Core.Bool.{Bool, true, false}
 use mathlib.Core.List.{◌++◌, append_assoc}
 use lib.Dec.{ltb, eqb}
 use borrow.Author.Tests.{eq-eqb, ne_eqb, eqb-false, ltb-false}
+use Rattle.std.specs.Prelude.{Option, Some, None}
 use Rattle.coding.specs.Number.{pick}
 use Rattle.coding.specs.Code.{Code, item, end, broken, values}
 use Rattle.coding.specs.declared.Cause.{Cause}
@@ -21,7 +22,7 @@ use Rattle.requirement.specs.declared.Kind.{Kind}
 use Rattle.requirement.specs.declared.One.{One}
 use Rattle.requirement.specs.declared.Two.{Two}
 use Rattle.requirement.specs.declared.Tag.{Tag}
-use Rattle.requirement.specs.declared.Tag.TheVariants.{Atom, Mark, OverOne, OverTwo, Unknown}
+use Rattle.requirement.specs.declared.Tag.TheVariants.{Atom, Mark, OverOne, OverTwo}
 use Rattle.requirement.proofs.Tagging.{Numbers, numbers_in_lem}
 
 module _ (kind : Kind) where
@@ -37,6 +38,16 @@ module _ (kind : Kind) where
   shut zero left p v c o = refl
   shut (suc depth) left p v c (inl e) = absurd (omega arith)
   shut (suc depth) left p v c (inr e) = rw (eq-eqb _ _ e.1)
+
+  -- where the tag is unknown, a limit passed or not
+  pub unknown : (depth left p v : ℕ) (c : Code) → tag_in kind v ≡ None → tree_of kind depth left (item p v c) ≡ refused NoSuchNode p
+  unfolding tree_of
+  unknown zero left p v c e = rw e
+  unknown (suc depth) left p v c e = rw e (either (eqb left 0))
+    where
+      either : (b : Bool) → pick b (refused NoSuchNode p) (refused NoSuchNode p) ≡ refused NoSuchNode p
+      either true = refl
+      either false = refl
 
   -- within the limits: by the tag
   pub opened : (depth left p v : ℕ) (c : Code) → (depth ≡ 0 → ⊥) → (left ≡ 0 → ⊥) →
@@ -70,7 +81,7 @@ module _ (kind : Kind) (depth left p v : ℕ) (c : Code) (h : left ≡ 0 → ⊥
     depth_kept = omega arith;
   }
 
-  tells_one : (o : One) (g : Got) → v ≡ one_no o → tag_in kind v ≡ OverOne o → Tells kind depth (left - 1) c g →
+  tells_one : (o : One) (g : Got) → v ≡ one_no o → tag_in kind v ≡ Some (OverOne o) → Tells kind depth (left - 1) c g →
       Tells kind (suc depth) left (item p v c) (and_then g (λ f n d. got (one o f) n d))
   unfolding code_of Allowed nodes_of depth_of
   tells_one o (refused cause place) n t r = tt
@@ -82,7 +93,7 @@ module _ (kind : Kind) (depth left p v : ℕ) (c : Code) (h : left ≡ 0 → ⊥
     depth_kept = omega (arith, r.depth_kept);
   }
 
-  tells_two : (o : Two) (sub : ℕ → Code → Got) (g : Got) → v ≡ two_no o → tag_in kind v ≡ OverTwo o → Tells kind depth (left - 1) c g →
+  tells_two : (o : Two) (sub : ℕ → Code → Got) (g : Got) → v ≡ two_no o → tag_in kind v ≡ Some (OverTwo o) → Tells kind depth (left - 1) c g →
       ((m : ℕ) (e : Code) → Tells kind depth m e (sub m e)) →
       Tells kind (suc depth) left (item p v c) (and_then g (λ f n d. and_then (sub n d) (λ k m e. got (two o f k) m e)))
   unfolding code_of Allowed nodes_of depth_of
@@ -99,19 +110,19 @@ module _ (kind : Kind) (depth left p v : ℕ) (c : Code) (h : left ≡ 0 → ⊥
         depth_kept = omega (arith, r.depth_kept, u.depth_kept);
       }
 
-  tells_tag : (sub : ℕ → Code → Got) (t : Tag) → tag_in kind v ≡ t → Numbers v t → ((m : ℕ) (e : Code) → Tells kind depth m e (sub m e)) →
+  tells_tag : (sub : ℕ → Code → Got) (t : Option Tag) → tag_in kind v ≡ t → Numbers v t → ((m : ℕ) (e : Code) → Tells kind depth m e (sub m e)) →
       Tells kind (suc depth) left (item p v c) (by_tag sub p t (left - 1) c)
   unfolding code_of Allowed nodes_of depth_of atom_of
-  tells_tag sub Unknown e n s = tt
-  tells_tag sub Atom e n s = go c refl
+  tells_tag sub None e n s = tt
+  tells_tag sub (Some Atom) e n s = go c refl
     where
       go : (d : Code) → c ≡ d → Tells kind (suc depth) left (item p v c) (atom_of (left - 1) d)
       go (end q) i = tt
       go (broken cause q) i = tt
       go (item q w d) i = tells_atom q w d (ltb 31 w) refl n i
-  tells_tag sub (Mark m) e n s = record { code = rw n; clean = λ x. x; allowed = rw n at e; nodes = omega arith; depth_kept = omega arith }
-  tells_tag sub (OverOne o) e n s = tells_one o (sub (left - 1) c) n e (s (left - 1) c)
-  tells_tag sub (OverTwo o) e n s = tells_two o sub (sub (left - 1) c) n e (s (left - 1) c) s
+  tells_tag sub (Some (Mark m)) e n s = record { code = rw n; clean = λ x. x; allowed = rw n at e; nodes = omega arith; depth_kept = omega arith }
+  tells_tag sub (Some (OverOne o)) e n s = tells_one o (sub (left - 1) c) n e (s (left - 1) c)
+  tells_tag sub (Some (OverTwo o)) e n s = tells_two o sub (sub (left - 1) c) n e (s (left - 1) c) s
 
 pub told : (kind : Kind) (depth left : ℕ) (c : Code) → Tells kind depth left c (tree_of kind depth left c)
 unfolding tree_of

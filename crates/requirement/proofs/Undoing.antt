@@ -3,9 +3,9 @@
 use Prim.Native.Nat.{ℕ}
 use mathlib.Core.Path.{◌≡◌, refl, sym, ◌∙◌, ap}
 use lib.ListN.{length}
+use Rattle.coding.specs.Refusal.{Answer}
+use Rattle.std.specs.Prelude.{Ok, Err}
 use Rattle.coding.specs.Code.{Code, values}
-use Rattle.coding.specs.declared.Answer.{Answer}
-use Rattle.coding.specs.declared.Answer.TheVariants.{Count, Refused}
 use Rattle.coding.proofs.Grammars.{Fair, Undone, undone}
 use Rattle.requirement.specs.Requirement.{Requirement}
 use Rattle.requirement.specs.Reading.{Parsed, whole, unread, parsed, checked, checked_of, counted, grammar}
@@ -14,8 +14,8 @@ use Rattle.requirement.proofs.Codes.{read_is_code, code_is_read}
 
 -- what the grammar accepts is a requirement
 abbrev Accepts : Kind → Code → Answer → Type 0
-Accepts kind c (Count n) = (f : Requirement) × (parsed kind c ≡ whole f) × (n ≡ length (values c))
-Accepts kind c (Refused cause place) = Unit {0}
+Accepts kind c (Ok n) = (f : Requirement) × (parsed kind c ≡ whole f) × (n ≡ length (values c))
+Accepts kind c (Err why) = Unit {0}
 
 accepts : (kind : Kind) (c : Code) → Accepts kind c (grammar kind c)
 unfolding grammar checked
@@ -25,10 +25,10 @@ accepts kind c = go (parsed kind c) refl
     go (whole f) e = (f, e, refl)
     go (unread cause place) e = tt
 
-pub accepted : (kind : Kind) (c : Code) (n : ℕ) → grammar kind c ≡ Count n → (f : Requirement) × (parsed kind c ≡ whole f) × (n ≡ length (values c))
+pub accepted : (kind : Kind) (c : Code) (n : ℕ) → grammar kind c ≡ Ok n → (f : Requirement) × (parsed kind c ≡ whole f) × (n ≡ length (values c))
 accepted kind c n e = rw e at (accepts kind c)
 
-counts : (kind : Kind) (c : Code) (f : Requirement) → parsed kind c ≡ whole f → grammar kind c ≡ Count (length (values c))
+counts : (kind : Kind) (c : Code) (f : Requirement) → parsed kind c ≡ whole f → grammar kind c ≡ Ok (length (values c))
 unfolding grammar checked
 counts kind c f e = rw e
 
@@ -39,7 +39,7 @@ fair kind = record {
   alike = λ c d n s q e.
       let a = accepted kind c n e in
       let r = read_is_code kind c a.0 a.1 in
-      counts kind d a.0 (code_is_read kind a.0 d r.2 (sym s ∙ r.0) q) ∙ ap Count (ap length (sym s) ∙ sym a.2);
+      counts kind d a.0 (code_is_read kind a.0 d r.2 (sym s ∙ r.0) q) ∙ ap Ok (ap length (sym s) ∙ sym a.2);
 }
 
 pub requirements_undone : (kind : Kind) → Undone (grammar kind)

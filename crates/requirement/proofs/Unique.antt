@@ -5,11 +5,16 @@ use mathlib.Core.Path.{◌≡◌}
 use contract.Lifetimes.{Lfts}
 use borrow.Fn.Kinds.{Dens, ended_of}
 use denote.Triple.Clauses.{AtExit}
-use Rattle.coding.specs.declared.Answer.{Answer}
+use denote.RattleType.{RattleType}
+use denote.Param.Laws.{Laws, IsCopy}
+use mir.Syntax.{Dict}
+use Rattle.coding.specs.declared.source.Source.{Ghosts}
+use Rattle.std.specs.declared.clone.Clone.{Ghosts as CloneGhosts}
+use Rattle.std.specs.Prelude.{Option}
+use Rattle.requirement.specs.Reading.{NodeAt, Check}
+use Rattle.coding.specs.Refusal.{Answer}
 use Rattle.coding.proofs.Unique.{one_answer, one_storing}
 use Rattle.requirement.specs.declared.Tag.{Tag}
-use Rattle.requirement.specs.declared.NodeRead.{NodeRead}
-use Rattle.requirement.specs.declared.Checked.{Checked}
 use Rattle.requirement.proofs.tag_of.Kinds as tag_of
 use Rattle.requirement.proofs.tag_of.Reads as tag_of_reads
 use Rattle.requirement.proofs.node_limit.Kinds as node_limit
@@ -30,7 +35,7 @@ use Rattle.requirement.proofs.write.Kinds as write
 use Rattle.requirement.proofs.write.Reads as write_reads
 
 module _ (κs : Lfts 0) where
-  pub tag_of_unique : (r t : Tag) (a : Dens κs tag_of.ps) (e f : AtExit (ended_of 0 tag_of.ps tag_of.r) κs) →
+  pub tag_of_unique : (r t : Option Tag) (a : Dens κs tag_of.ps) (e f : AtExit (ended_of 0 tag_of.ps tag_of.r) κs) →
       tag_of_reads.Post κs a r e → tag_of_reads.Post κs a t f → r ≡ t
   tag_of_unique r t a e f = one_answer
 
@@ -46,20 +51,22 @@ module _ (κs : Lfts 0) where
       highest_tag_reads.Post κs a r e → highest_tag_reads.Post κs a t f → r ≡ t
   highest_tag_unique r t a e f = one_answer
 
-  pub tag_in_unique : (r t : Tag) (a : Dens κs tag_in.ps) (e f : AtExit (ended_of 0 tag_in.ps tag_in.r) κs) →
+  pub tag_in_unique : (r t : Option Tag) (a : Dens κs tag_in.ps) (e f : AtExit (ended_of 0 tag_in.ps tag_in.r) κs) →
       tag_in_reads.Post κs a r e → tag_in_reads.Post κs a t f → r ≡ t
   tag_in_unique r t a e f = one_answer
 
-module _ (κs : Lfts 1) (r t : NodeRead) where
+module _ (κs : Lfts 1) (r t : NodeAt) where
   pub read_node_unique : (a : Dens κs read_node.ps) (e f : AtExit (ended_of 1 read_node.ps read_node.r) κs) →
       read_node_reads.Post κs a r e → read_node_reads.Post κs a t f → r ≡ t
   read_node_unique a e f = one_answer
 
-module _ (κs : Lfts 2) where
-  pub check_unique : (r t : Checked) (a : Dens κs check.ps) (e f : AtExit (ended_of 2 check.ps check.r) κs) →
-      check_reads.Post κs a r e → check_reads.Post κs a t f → r ≡ t
-  check_unique r t a e f = one_answer
+-- whatever the type of the source, and whatever its places
+module _ (S : RattleType) (laws : Laws S) (copy : IsCopy S) (source : Ghosts S.Denot) (dict : Dict) (clone : CloneGhosts S.Denot) (clone_dict : Dict) (κs : Lfts 1) (r t : Check) where
+  pub check_unique : (a : Dens κs (check.ps S laws copy)) (e f : AtExit (ended_of 1 (check.ps S laws copy) (check.r S laws copy)) κs) →
+      check_reads.Post S laws copy source dict clone clone_dict κs a r e → check_reads.Post S laws copy source dict clone clone_dict κs a t f → r ≡ t
+  check_unique a e f = one_answer
 
+module _ (κs : Lfts 2) where
   pub read_unique : (r t : Answer) (a : Dens κs read.ps) (e f : AtExit (ended_of 2 read.ps read.r) κs) →
       read_reads.Post κs a r e → read_reads.Post κs a t f → (r ≡ t) × (e.1.1.0.now ≡ f.1.1.0.now)
   read_unique r t a e f = one_storing _ _

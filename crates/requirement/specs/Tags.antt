@@ -1,7 +1,7 @@
 -- Document 01, Coding: "Requirement, operator first: 0 atom and its number (0 to 31); 1 not; 2 and; marks 3 Input, 4 Exe, 5 Output;
 -- plain X, F, G, U 8 to 11; e operators 12 to 15, i 16 to 19, o 20 to 23, in the same order."
 -- Assumes nothing: these are definitions.
-use Rattle.std.specs.Prelude.{ℕ, ◌+◌, List, [], ◌∷◌, ◌++◌, get_or}
+use Rattle.std.specs.Prelude.{ℕ, ◌+◌, List, [], ◌∷◌, ◌++◌, get_or, Option, Some, None}
 use Rattle.requirement.specs.Requirement.{Requirement, atom, mark, one, two}
 use Rattle.requirement.specs.declared.Phase.{Phase}
 use Rattle.requirement.specs.declared.Phase.TheVariants.{Input, Exe, Output}
@@ -15,20 +15,20 @@ use Rattle.requirement.specs.declared.Two.TheVariants.{And, Until}
 use Rattle.requirement.specs.declared.Node.{Node}
 use Rattle.requirement.specs.declared.Node.TheVariants.{Atom as AtomNode, Mark as MarkNode, OverOne as OneNode, OverTwo as TwoNode}
 use Rattle.requirement.specs.declared.Tag.{Tag}
-use Rattle.requirement.specs.declared.Tag.TheVariants.{Atom, Mark, OverOne, OverTwo, Unknown}
+use Rattle.requirement.specs.declared.Tag.TheVariants.{Atom, Mark, OverOne, OverTwo}
 
 -- X, F, G and U of a family, in the paper's order.
-abbrev pub four_of : Family → List Tag
-four_of c = OverOne (Next c) ∷ OverOne (Ever c) ∷ OverOne (Always c) ∷ OverTwo (Until c) ∷ []
+abbrev pub four_of : Family → List (Option Tag)
+four_of c = Some (OverOne (Next c)) ∷ Some (OverOne (Ever c)) ∷ Some (OverOne (Always c)) ∷ Some (OverTwo (Until c)) ∷ []
 
 -- The tags from 0 on; 6 and 7 have none.
-abbrev pub tags : List Tag
+abbrev pub tags : List (Option Tag)
 tags =
-    Atom ∷ OverOne Not ∷ OverTwo And ∷ Mark Input ∷ Mark Exe ∷ Mark Output ∷ Unknown ∷ Unknown
+    Some Atom ∷ Some (OverOne Not) ∷ Some (OverTwo And) ∷ Some (Mark Input) ∷ Some (Mark Exe) ∷ Some (Mark Output) ∷ None ∷ None
     ∷ (four_of Plain ++ (four_of Within ++ (four_of (Each Reads) ++ four_of (Each Writes))))
 
-unfoldable pub tag_of : ℕ → Tag
-tag_of v = get_or tags v Unknown
+unfoldable pub tag_of : ℕ → Option Tag
+tag_of v = get_or tags v None
 
 -- The other way round: the number of a mark and of an operator, and the numbers of a whole requirement.
 abbrev pub mark_no : Phase → ℕ

@@ -1,16 +1,14 @@
 -- A requirement walked node by node, as judging and translating go down it. For codes that were checked this finds the requirement that was read
 -- (a theorem); it looks for no limit but the depth.
 -- Assumes nothing: these are definitions.
-use Rattle.std.specs.Prelude.{ℕ, zero, suc, List}
+use Rattle.std.specs.Prelude.{ℕ, zero, suc, List, Ok, Err}
 use Rattle.requirement.specs.Requirement.{Requirement, atom, mark, one, two}
-use Rattle.requirement.specs.Reading.{node_at}
+use Rattle.requirement.specs.Reading.{NodeAt, node_at}
 use Rattle.requirement.specs.declared.Kind.{Kind}
 use Rattle.requirement.specs.declared.One.{One}
 use Rattle.requirement.specs.declared.Two.{Two}
 use Rattle.requirement.specs.declared.Node.{Node}
 use Rattle.requirement.specs.declared.Node.TheVariants.{Atom, Mark, OverOne, OverTwo}
-use Rattle.requirement.specs.declared.NodeRead.{NodeRead}
-use Rattle.requirement.specs.declared.NodeRead.TheVariants.{Found, Fault}
 
 -- A requirement and the place after its code, or that there is none.
 pub data Walked : Type 0 where
@@ -35,9 +33,9 @@ from_node sub (Mark p) next = walked (mark p) next
 from_node sub (OverOne o) next = over_one o (sub next)
 from_node sub (OverTwo o) next = over_two o sub (sub next)
 
-abbrev pub from_read : (ℕ → Walked) → NodeRead → Walked
-from_read sub (Found node next) = from_node sub node next
-from_read sub (Fault cause place) = lost
+abbrev pub from_read : (ℕ → Walked) → NodeAt → Walked
+from_read sub (Ok found) = from_node sub found.node found.next
+from_read sub (Err why) = lost
 
 -- The requirement at most `depth` deep whose code begins at a place.
 unfoldable pub walk_at : Kind → ℕ → List ℕ → ℕ → Walked

@@ -4,13 +4,14 @@
 mod tree;
 
 ghost use Rattle.std.specs.Prelude.{◌≡◌};
-ghost use Rattle.coding.specs.Code.{code_at, source_at, values, bytes_of_all};
+ghost use Rattle.coding.specs.Code.{code_at, values, bytes_of_all};
 ghost use Rattle.coding.specs.Room.{read_by, write_by, stored};
 ghost use Rattle.requirement.specs.Tags.{tag_of};
 ghost use Rattle.requirement.specs.Limits.{node_limit, depth_limit, highest_tag, tag_in};
-ghost use Rattle.requirement.specs.Reading.{node_at, checked, counted, grammar};
+ghost use Rattle.requirement.specs.Reading.{node_at, atom_at, checked, grammar};
+ghost use Rattle.coding.specs.Number.{number_at};
 
-use coding::{Answer, Cause, Number};
+use coding::{Answer, Cause, Refusal, Source};
 
 pub const HIGHEST_ATOM: u16 = 31;
 
@@ -69,7 +70,6 @@ pub enum Tag {
     Mark(Phase),
     OverOne(One),
     OverTwo(Two),
-    Unknown,
 }
 
 // Which of the two is read.
@@ -79,48 +79,48 @@ pub enum Kind {
     Translated,
 }
 
-// What reading a node finds: the node and the place after it, or a refusal.
+// A node that was read, and the place after it.
 #[derive(Clone, Copy)]
-pub enum NodeRead {
-    Found(Node, usize),
-    Fault(Cause, usize),
+pub struct NodeRead {
+    pub node: Node,
+    pub next: usize,
 }
 
-// What checking a requirement finds: its nodes and its depth, or a refusal.
+// How many nodes an accepted requirement has, and how deep it is.
 #[derive(Clone, Copy)]
-pub enum Checked {
-    Whole(u16, u16),
-    Refused(Cause, usize),
+pub struct Checked {
+    pub nodes: u16,
+    pub depth: u16,
 }
 
-// The node that a tag asks for.
-pub fn tag_of(v: u16) -> Tag
+// What a tag asks for, if it is known.
+pub fn tag_of(v: u16) -> Option<Tag>
     ensures { result ≡ tag_of v }
 {
     match v {
-        0 => Tag::Atom,
-        1 => Tag::OverOne(One::Not),
-        2 => Tag::OverTwo(Two::And),
-        3 => Tag::Mark(Phase::Input),
-        4 => Tag::Mark(Phase::Exe),
-        5 => Tag::Mark(Phase::Output),
-        8 => Tag::OverOne(One::Next(Family::Plain)),
-        9 => Tag::OverOne(One::Ever(Family::Plain)),
-        10 => Tag::OverOne(One::Always(Family::Plain)),
-        11 => Tag::OverTwo(Two::Until(Family::Plain)),
-        12 => Tag::OverOne(One::Next(Family::Within)),
-        13 => Tag::OverOne(One::Ever(Family::Within)),
-        14 => Tag::OverOne(One::Always(Family::Within)),
-        15 => Tag::OverTwo(Two::Until(Family::Within)),
-        16 => Tag::OverOne(One::Next(Family::Each(End::Reads))),
-        17 => Tag::OverOne(One::Ever(Family::Each(End::Reads))),
-        18 => Tag::OverOne(One::Always(Family::Each(End::Reads))),
-        19 => Tag::OverTwo(Two::Until(Family::Each(End::Reads))),
-        20 => Tag::OverOne(One::Next(Family::Each(End::Writes))),
-        21 => Tag::OverOne(One::Ever(Family::Each(End::Writes))),
-        22 => Tag::OverOne(One::Always(Family::Each(End::Writes))),
-        23 => Tag::OverTwo(Two::Until(Family::Each(End::Writes))),
-        _ => Tag::Unknown,
+        0 => Some(Tag::Atom),
+        1 => Some(Tag::OverOne(One::Not)),
+        2 => Some(Tag::OverTwo(Two::And)),
+        3 => Some(Tag::Mark(Phase::Input)),
+        4 => Some(Tag::Mark(Phase::Exe)),
+        5 => Some(Tag::Mark(Phase::Output)),
+        8 => Some(Tag::OverOne(One::Next(Family::Plain))),
+        9 => Some(Tag::OverOne(One::Ever(Family::Plain))),
+        10 => Some(Tag::OverOne(One::Always(Family::Plain))),
+        11 => Some(Tag::OverTwo(Two::Until(Family::Plain))),
+        12 => Some(Tag::OverOne(One::Next(Family::Within))),
+        13 => Some(Tag::OverOne(One::Ever(Family::Within))),
+        14 => Some(Tag::OverOne(One::Always(Family::Within))),
+        15 => Some(Tag::OverTwo(Two::Until(Family::Within))),
+        16 => Some(Tag::OverOne(One::Next(Family::Each(End::Reads)))),
+        17 => Some(Tag::OverOne(One::Ever(Family::Each(End::Reads)))),
+        18 => Some(Tag::OverOne(One::Always(Family::Each(End::Reads)))),
+        19 => Some(Tag::OverTwo(Two::Until(Family::Each(End::Reads)))),
+        20 => Some(Tag::OverOne(One::Next(Family::Each(End::Writes)))),
+        21 => Some(Tag::OverOne(One::Ever(Family::Each(End::Writes)))),
+        22 => Some(Tag::OverOne(One::Always(Family::Each(End::Writes)))),
+        23 => Some(Tag::OverTwo(Two::Until(Family::Each(End::Writes)))),
+        _ => None,
     }
 }
 
@@ -151,63 +151,62 @@ pub fn highest_tag(kind: Kind) -> u16
     }
 }
 
-// The node that a tag asks for, where the kind has it.
-pub fn tag_in(kind: Kind, v: u16) -> Tag
+// What a tag asks for, where the kind has it.
+pub fn tag_in(kind: Kind, v: u16) -> Option<Tag>
     ensures { result ≡ tag_in kind v }
 {
     if highest_tag(kind) < v {
-        return Tag::Unknown;
+        return None;
     }
     tag_of(v)
 }
 
 // The node whose tag stands at `at`.
-pub fn read_node(kind: Kind, code: &[u8], at: usize) -> NodeRead
+pub fn read_node(kind: Kind, code: &[u8], at: usize) -> Result<NodeRead, Refusal>
     ensures { result ≡ node_at kind code.now at }
 {
-    match coding::read_number(code, at) {
-        Number::Fault(cause, place) => NodeRead::Fault(cause, place),
-        Number::Value(v, next) => match tag_in(kind, v) {
-            Tag::Unknown => NodeRead::Fault(Cause::NoSuchNode, at),
-            Tag::Mark(mark) => NodeRead::Found(Node::Mark(mark), next),
-            Tag::OverOne(operator) => NodeRead::Found(Node::OverOne(operator), next),
-            Tag::OverTwo(operator) => NodeRead::Found(Node::OverTwo(operator), next),
-            Tag::Atom => match coding::read_number(code, next) {
-                Number::Fault(cause, place) => NodeRead::Fault(cause, place),
-                Number::Value(k, after) => {
-                    if HIGHEST_ATOM < k {
-                        return NodeRead::Fault(Cause::NoSuchNode, next);
-                    }
-                    NodeRead::Found(Node::Atom(k), after)
-                }
-            },
-        },
+    let number = coding::read_number(code, at)?;
+    let next = number.next;
+    let Some(tag) = tag_in(kind, number.value) else {
+        return Err(Cause::NoSuchNode.at(at));
+    };
+    match tag {
+        Tag::Atom => read_atom(code, next),
+        Tag::Mark(mark) => Ok(NodeRead {
+            node: Node::Mark(mark),
+            next,
+        }),
+        Tag::OverOne(operator) => Ok(NodeRead {
+            node: Node::OverOne(operator),
+            next,
+        }),
+        Tag::OverTwo(operator) => Ok(NodeRead {
+            node: Node::OverTwo(operator),
+            next,
+        }),
     }
+}
+
+// The atom whose number stands at `at`.
+fn read_atom(code: &[u8], at: usize) -> Result<NodeRead, Refusal>
+    ensures { result ≡ atom_at at (number_at code.now at) }
+{
+    let number = coding::read_number(code, at)?;
+    if HIGHEST_ATOM < number.value {
+        return Err(Cause::NoSuchNode.at(at));
+    }
+    Ok(NodeRead {
+        node: Node::Atom(number.value),
+        next: number.next,
+    })
 }
 
 // The whole source as a requirement: how many nodes and how deep, or the first fault.
-pub fn check(kind: Kind, from_bytes: bool, code: &[u8], numbers: &[u16]) -> Checked
-    ensures { result ≡ checked kind (source_at from_bytes code.now numbers.now 0) }
+pub fn check<S: Source>(kind: Kind, source: S) -> Result<Checked, Refusal>
+    ensures { result ≡ checked kind ((S.places source).code 0) }
 {
-    let part = tree::tree(
-        kind,
-        depth_limit(kind),
-        node_limit(kind),
-        from_bytes,
-        code,
-        numbers,
-        0,
-    );
-    tree::whole(kind, part, from_bytes, code, numbers)
-}
-
-fn counted_numbers(found: Checked, n: usize) -> Answer
-    ensures { result ≡ counted n found }
-{
-    match found {
-        Checked::Refused(cause, place) => Answer::Refused(cause, place),
-        Checked::Whole(_, _) => Answer::Count(n),
-    }
+    let part = tree::tree(kind, depth_limit(kind), node_limit(kind), source, 0)?;
+    tree::whole(kind, part, source)
 }
 
 // Reads a requirement's bytes into numbers.
@@ -215,10 +214,8 @@ pub fn read(kind: Kind, code: &[u8], out: &mut [u16]) -> Answer
     ensures { (result ≡ read_by (grammar kind) code.now out.old)
         × (out.new ≡ stored result out.old (values (code_at code.now 0))) }
 {
-    let none = [0u16; 1];
-    let found = check(kind, true, code, &none);
-    let answer = counted_numbers(found, coding::count_numbers(code));
-    coding::read_checked(answer, code, out)
+    check(kind, code)?;
+    coding::read_checked(Ok(coding::count_numbers(code)), code, out)
 }
 
 // Writes a requirement's numbers as bytes.
@@ -226,8 +223,6 @@ pub fn write(kind: Kind, numbers: &[u16], buf: &mut [u8]) -> Answer
     ensures { (result ≡ write_by (grammar kind) numbers.now buf.old)
         × (buf.new ≡ stored result buf.old (bytes_of_all numbers.now)) }
 {
-    let none = [0u8; 1];
-    let found = check(kind, false, &none, numbers);
-    let answer = counted_numbers(found, numbers.len());
-    coding::write_checked(answer, numbers, buf)
+    check(kind, numbers)?;
+    coding::write_checked(Ok(numbers.len()), numbers, buf)
 }

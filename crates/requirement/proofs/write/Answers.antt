@@ -1,10 +1,13 @@
 use mathlib.Core.Path.{refl}
-use Rattle.requirement.proofs.Answers.{of_numbers}
+use Rattle.std.proofs.lemmas.Result.{err_from_is_err_and}
+use Rattle.requirement.proofs.Answers.{numbers_refused, numbers_accepted}
 use Rattle.requirement.proofs.write.Goals as goal
 
+pub returns-in_err-check : goal.returns-in_err-check
+returns-in_err-check c =
+    let p = err_from_is_err_and c.from_residual.result c.from_residual.ensures.1 in
+    rw (p.1, p.2, ← numbers_refused c.args.kind c.args.numbers.now _ c.in_err-check.ensures) (refl, refl)
+
 pub returns : goal.returns
-returns c = (
-  rw (← of_numbers _ _ _ _ _ _ c.counted_numbers-answer.ensures c.check-found.ensures refl)
-      c.write_checked.ensures.0,
-  c.write_checked.ensures.1,
-)
+returns c =
+    rw (← numbers_accepted c.args.kind c.args.numbers.now _ c.in_ok-check.ensures) c.write_checked.ensures

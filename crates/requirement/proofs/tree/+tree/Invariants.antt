@@ -1,4 +1,4 @@
 use Rattle.requirement.proofs.tree.+tree.Given as goal
 
 abbrev pub decreases-tree : goal.decreases-tree
-decreases-tree l = l.depth
+decreases-tree g l = l.depth
