@@ -187,13 +187,13 @@ pub fn read_node(kind: Kind, code: &[u8], at: usize) -> Result<NodeRead, Refusal
     }
 }
 
-// The atom whose number stands at `at`.
-fn read_atom(code: &[u8], at: usize) -> Result<NodeRead, Refusal>
-    ensures { result ≡ atom_at at (number_at code.now at) }
+// The atom whose number stands at a place.
+fn read_atom(code: &[u8], place: usize) -> Result<NodeRead, Refusal>
+    ensures { result ≡ atom_at place (number_at code.now place) }
 {
-    let number = coding::read_number(code, at)?;
+    let number = coding::read_number(code, place)?;
     if HIGHEST_ATOM < number.value {
-        return Err(Cause::NoSuchNode.at(at));
+        return Err(Cause::NoSuchNode.at(place));
     }
     Ok(NodeRead {
         node: Node::Atom(number.value),
