@@ -4,9 +4,9 @@ use Prim.Native.Nat.{ℕ, ◌+◌}
 use native.Mathlib.Omega.{arith}
 use mathlib.Core.Path.{◌≡◌, refl}
 use mathlib.Core.List.{List}
+use Rattle.coding.specs.Refusal.{Answer}
+use Rattle.std.specs.Prelude.{Ok, Err}
 use Rattle.coding.specs.Code.{Code, item, end, broken, values}
-use Rattle.coding.specs.declared.Answer.{Answer}
-use Rattle.coding.specs.declared.Answer.TheVariants.{Count, Refused}
 use Rattle.coding.proofs.Trips.{Clean}
 use Rattle.ranges.specs.Order.{step_of}
 use Rattle.ranges.specs.declared.Want.{Want}
@@ -33,12 +33,12 @@ alike (broken cause p) d k l e = absurd k
 
 -- what the first accepts so, the second accepts so
 abbrev pub Follows : Answer → Answer → Type 0
-Follows (Count n) r = r ≡ Count n
-Follows (Refused cause p) r = Unit {0}
+Follows (Ok n) r = r ≡ Ok n
+Follows (Err why) r = Unit {0}
 
 pub follows_self : (a : Answer) → Follows a a
-follows_self (Count n) = refl
-follows_self (Refused cause p) = tt
+follows_self (Ok n) = refl
+follows_self (Err why) = tt
 
 ended_alike : {c d : Code} → Alike c d → (n : ℕ) → Follows (ended n c) (ended n d)
 ended_alike ends n = refl

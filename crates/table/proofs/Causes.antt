@@ -5,11 +5,10 @@ use native.Mathlib.Omega.{arith}
 use mathlib.Core.Bool.{Bool, true, false}
 use mathlib.Core.List.{List}
 use lib.Dec.{ltb}
+use Rattle.std.specs.Prelude.{Ok, Err}
 use Rattle.coding.specs.Code.{Code, item, end, broken, code_at}
-use Rattle.coding.specs.Refusal.{number_of}
+use Rattle.coding.specs.Refusal.{number_of, Answer, refused_at}
 use Rattle.coding.specs.declared.Cause.TheVariants.{NotAllowed}
-use Rattle.coding.specs.declared.Answer.{Answer}
-use Rattle.coding.specs.declared.Answer.TheVariants.{Count, Refused}
 use Rattle.coding.proofs.Causes.{OneCode, code_one}
 use Rattle.ranges.specs.Limits.{most_variables}
 use Rattle.ranges.specs.Values.{pick}
@@ -29,8 +28,8 @@ pub data NotTable : ℕ → Type 0 where
 
 -- What is refused is refused by one of these numbers.
 abbrev pub NamedAnswer : Answer → Type 0
-NamedAnswer (Count n) = Unit {0}
-NamedAnswer (Refused cause place) = NotTable (number_of cause)
+NamedAnswer (Ok n) = Unit {0}
+NamedAnswer (Err why) = NotTable (number_of why.cause)
 
 -- ---- the first look
 named_check : (most : ℕ) (c : Code) (want : Want) (n : ℕ) → OneCode c → NamedAnswer (check most want n c)
@@ -68,15 +67,15 @@ table_named most s =
     go (check most table_start 0 (code_at s 0)) (named_check most (code_at s 0) table_start 0 (code_one s 0))
   where
     go : (a : Answer) → NamedAnswer a → NamedAnswer (tested most (code_at s 0) a)
-    go (Count n) h =
-        named_tests most (counts_from most table_start no_counts (code_at s 0)) (code_at s 0) table_start (Count n) h
-    go (Refused cause place) h = h
+    go (Ok n) h =
+        named_tests most (counts_from most table_start no_counts (code_at s 0)) (code_at s 0) table_start (Ok n) h
+    go (Err why) h = h
 
 pub inputs_named : (inputs : ℕ) (s : List ℕ) → NamedAnswer (inputs_grammar inputs (code_at s 0))
 unfolding inputs_grammar
 inputs_named inputs s = go (ltb most_variables inputs)
   where
-    go : (t : Bool) → NamedAnswer (pick t (Refused NotAllowed 0) (check 0 (Scans inputs) 0 (code_at s 0)))
+    go : (t : Bool) → NamedAnswer (pick t (refused_at NotAllowed 0) (check 0 (Scans inputs) 0 (code_at s 0)))
     go true = not_allowed
     go false = named_check 0 (code_at s 0) (Scans inputs) 0 (code_one s 0)
 

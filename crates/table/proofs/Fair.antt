@@ -6,10 +6,10 @@ use mathlib.Core.Path.{◌≡◌, sym, ◌∙◌}
 use mathlib.Core.Bool.{Bool, true, false}
 use lib.ListN.{length}
 use lib.Dec.{ltb}
+use Rattle.coding.specs.Refusal.{Answer, refused_at}
+use Rattle.std.specs.Prelude.{Ok, Err}
 use Rattle.coding.specs.Code.{Code, item, end, broken, values}
 use Rattle.coding.specs.declared.Cause.TheVariants.{NotAllowed}
-use Rattle.coding.specs.declared.Answer.{Answer}
-use Rattle.coding.specs.declared.Answer.TheVariants.{Count, Refused}
 use Rattle.coding.proofs.Trips.{Clean}
 use Rattle.coding.proofs.Grammars.{Fair}
 use Rattle.ranges.specs.Limits.{most_variables}
@@ -24,8 +24,8 @@ use Rattle.table.proofs.Alike.{alike, Follows, check_alike, counts_alike, tests_
 
 -- what the first look accepts is all numbers, as many as it counted
 abbrev Counted : ℕ → Code → Answer → Type 0
-Counted n c (Count m) = (m ≡ n + length (values c)) × Clean c
-Counted n c (Refused cause p) = Unit {0}
+Counted n c (Ok m) = (m ≡ n + length (values c)) × Clean c
+Counted n c (Err why) = Unit {0}
 
 counted : (most : ℕ) (c : Code) (want : Want) (n : ℕ) → Counted n c (check most want n c)
 unfolding check
@@ -36,8 +36,8 @@ counted most (item p v c) want n =
     [ More to ↦ up (check most to (n + 1) c) (counted most c to (n + 1)) | Last ↦ last c | Bad ↦ tt ]
   where
     up : (a : Answer) → Counted (n + 1) c a → Counted n (item p v c) a
-    up (Count m) h = (omega arith, h.1)
-    up (Refused cause q) h = tt
+    up (Ok m) h = (omega arith, h.1)
+    up (Err why) h = tt
 
     last : (d : Code) → Counted n (item p v d) (ended (n + 1) d)
     last (item q x d) = tt
@@ -47,10 +47,10 @@ counted most (item p v c) want n =
 -- The machine, whatever is wanted first.
 pub fair_machine : (most : ℕ) (want : Want) → Fair (check most want 0)
 fair_machine most want = record {
-  counts = λ c n e. let h : Counted 0 c (Count n) = rw e at (counted most c want 0) in omega arith;
-  clean = λ c n e. let h : Counted 0 c (Count n) = rw e at (counted most c want 0) in h.1;
+  counts = λ c n e. let h : Counted 0 c (Ok n) = rw e at (counted most c want 0) in omega arith;
+  clean = λ c n e. let h : Counted 0 c (Ok n) = rw e at (counted most c want 0) in h.1;
   alike = λ c d n e l a.
-      let h : Counted 0 c (Count n) = rw a at (counted most c want 0) in
+      let h : Counted 0 c (Ok n) = rw a at (counted most c want 0) in
       rw a at (check_alike most (alike c d h.1 l e) want 0);
 }
 
@@ -61,13 +61,13 @@ module _ (most : ℕ) where
   first_look c = go (check most table_start 0 c)
     where
       go : (a : Answer) → Follows (tested most c a) a
-      go (Count n) = tests_pass most (counts_from most table_start no_counts c) (Count n) c table_start
-      go (Refused cause p) = tt
+      go (Ok n) = tests_pass most (counts_from most table_start no_counts c) (Ok n) c table_start
+      go (Err why) = tt
 
-  looked : (c : Code) (n : ℕ) → table_grammar most c ≡ Count n → check most table_start 0 c ≡ Count n
+  looked : (c : Code) (n : ℕ) → table_grammar most c ≡ Ok n → check most table_start 0 c ≡ Ok n
   looked c n e = rw e at (first_look c)
 
-  second_look : (c : Code) (n : ℕ) → check most table_start 0 c ≡ Count n → table_grammar most c ≡ tests_from most (counts_from most table_start no_counts c) table_start c (Count n)
+  second_look : (c : Code) (n : ℕ) → check most table_start 0 c ≡ Ok n → table_grammar most c ≡ tests_from most (counts_from most table_start no_counts c) table_start c (Ok n)
   unfolding table_grammar
   second_look c n h = rw h
 
@@ -81,12 +81,12 @@ module _ (most : ℕ) where
             let h = looked c n a in
             let k = machine.alike c d n e l h in
             let s = alike c d (machine.clean c n h) l e in
-            let t : tests_from most (counts_from most table_start no_counts c) table_start c (Count n) ≡ Count n = sym (second_look c n h) ∙ a in
-            second_look d n k ∙ rw (← counts_alike most s table_start no_counts) (rw t at (tests_alike most (counts_from most table_start no_counts c) (Count n) s table_start));
+            let t : tests_from most (counts_from most table_start no_counts c) table_start c (Ok n) ≡ Ok n = sym (second_look c n h) ∙ a in
+            second_look d n k ∙ rw (← counts_alike most s table_start no_counts) (rw t at (tests_alike most (counts_from most table_start no_counts c) (Ok n) s table_start));
       }
 
 -- An inputs record, or none.
-unless : (b : Bool) (p : ℕ) (grammar : Code → Answer) → Fair grammar → Fair (λ c. pick b (Refused NotAllowed p) (grammar c))
+unless : (b : Bool) (p : ℕ) (grammar : Code → Answer) → Fair grammar → Fair (λ c. pick b (refused_at NotAllowed p) (grammar c))
 unless true p grammar fair = record {
   counts = λ c n e. let z : ◌≡◌ {A = ℕ} 0 1 = cc in absurd (omega arith);
   clean = λ c n e. let z : ◌≡◌ {A = ℕ} 0 1 = cc in absurd (omega arith);

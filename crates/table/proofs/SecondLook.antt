@@ -2,21 +2,21 @@
 -- Assumes nothing.
 use Prim.Native.Nat.{ℕ, ◌≤◌, ◌<◌}
 use native.Mathlib.Omega.{arith}
-use mathlib.Core.Path.{◌≡◌, refl, ◌∙◌, ap}
+use mathlib.Core.Path.{◌≡◌, refl, sym, ◌∙◌, ap}
 use mathlib.Core.Logic.{⊎_elim}
-use mathlib.Core.Bool.{Bool, true}
+use mathlib.Core.Bool.{true}
 use mathlib.Core.List.{List}
 use lib.Dec.{leb}
 use borrow.Author.Tests.{eq-eqb, ne_eqb}
-use Rattle.coding.specs.Code.{source_number, source_size, source_at}
-use Rattle.coding.specs.declared.Cause.{Cause}
-use Rattle.coding.specs.declared.Number.TheVariants.{Value, Fault}
-use Rattle.coding.specs.declared.Answer.{Answer}
+use Rattle.std.specs.Prelude.{Err}
+use Rattle.coding.specs.Refusal.{Answer, value_then}
+use Rattle.coding.specs.Code.{Places, Turns}
+use Rattle.coding.specs.declared.Refusal.{Refusal}
 use Rattle.ranges.specs.Limits.{err_state}
 use Rattle.ranges.specs.Order.{step_of}
 use Rattle.ranges.specs.declared.Want.{Want}
 use Rattle.ranges.specs.declared.Step.{Step}
-use Rattle.ranges.specs.declared.Step.TheVariants.{More}
+use Rattle.ranges.specs.declared.Step.TheVariants.{More, Last, NotAllowed as Bad}
 use Rattle.table.specs.declared.Role.{Role}
 use Rattle.table.specs.declared.tests.Ruling.{Ruling}
 use Rattle.table.specs.declared.tests.Ruling.TheVariants.{Fine}
@@ -33,32 +33,42 @@ module _ (states b : ℕ) where
   unfolding state_ok
   no_err h = rw (ne_eqb _ _ h)
 
-pub record Tests (most : ℕ) (counts : List ℕ) (accepted : Answer) (from_bytes : Bool) (s xs : List ℕ) (want : Want) (at : ℕ) : Type 0 where
-  pub left : tests_from most counts want (source_at from_bytes s xs at) accepted ≡ tests_from most counts table_start (source_at from_bytes s xs 0) accepted
-  pub inside : at ≤ source_size from_bytes s xs
+pub record Tests (most : ℕ) (counts : List ℕ) (accepted : Answer) (source : Places) (want : Want) (at : ℕ) : Type 0 where
+  pub left : tests_from most counts want (source.code at) accepted ≡ tests_from most counts table_start (source.code 0) accepted
+  pub inside : at ≤ source.size
 
-pub begins : (most : ℕ) (counts : List ℕ) (accepted : Answer) (from_bytes : Bool) (s xs : List ℕ) → Tests most counts accepted from_bytes s xs table_start 0
-begins most counts accepted from_bytes s xs = record { left = refl; inside = omega arith }
+pub begins : (most : ℕ) (counts : List ℕ) (accepted : Answer) (source : Places) → Tests most counts accepted source table_start 0
+begins most counts accepted source = record { left = refl; inside = omega arith }
 
-module _ {most : ℕ} {counts : List ℕ} {accepted : Answer} {from_bytes : Bool} {s xs : List ℕ} {want : Want} {at : ℕ}
-    (i : Tests most counts accepted from_bytes s xs want at) where
-  pub stops : (cause : Cause) (q : ℕ) → Fault cause q ≡ source_number from_bytes s xs at → accepted ≡ tests_from most counts table_start (source_at from_bytes s xs 0) accepted
+module _ {most : ℕ} {counts : List ℕ} {accepted : Answer} {source : Places} {want : Want} {at : ℕ}
+    (turns : Turns source) (i : Tests most counts accepted source want at) where
+  pub stops : (why : Refusal) → Err why ≡ source.number at → accepted ≡ tests_from most counts table_start (source.code 0) accepted
   unfolding tests_from
-  stops cause q e = rw (← i.left) (⊎_elim (λ o. rw o.2) (λ o. rw o.1) (stopped from_bytes s xs at cause q e).1)
+  stops why e = rw (← i.left) (⊎_elim (λ o. rw o.2) (λ o. rw o.1) (stopped source turns at why e).1)
 
-  module _ (v next : ℕ) (e : Value v next ≡ source_number from_bytes s xs at) where
-    pub passes : (at < next) × (next ≤ source_size from_bytes s xs)
-    passes = let u = turned from_bytes s xs at v next e in (u.1, u.2)
+  module _ (v next : ℕ) (e : value_then v next ≡ source.number at) where
+    pub passes : (at < next) × (next ≤ source.size)
+    passes = let u = turned source turns at v next e in (u.1, u.2)
 
     module _ (role : Role) (k : role ≡ role_of want) (says : Ruling) (f : says ≡ test_says counts role v) where
       -- on every way, by what is said of the number
       pub says_so : (t : Step) → t ≡ step_of most want v →
-          shows (tests most counts accepted (source_at from_bytes s xs next) t) at accepted says
-          ≡ tests_from most counts table_start (source_at from_bytes s xs 0) accepted
+          shows (tests most counts accepted (source.code next) t) at accepted says
+          ≡ tests_from most counts table_start (source.code 0) accepted
       says_so t g =
-          rw (← i.left, (turned from_bytes s xs at v next e).0)
-          (tests_item most want at v (source_at from_bytes s xs next) t g counts accepted says (f ∙ ap (λ (r : Role). test_says counts r v) k))
+          rw (← i.left, (turned source turns at v next e).0)
+          (tests_item most want at v (source.code next) t g counts accepted says (f ∙ ap (λ (r : Role). test_says counts r v) k))
+
+    -- where the machine does not go on the first look has refused or accepted already
+    pub no_more : (role : Role) → role ≡ role_of want → Fine ≡ test_says counts role v → ((to : Want) → step_of most want v ≡ More to → ⊥) →
+        accepted ≡ tests_from most counts table_start (source.code 0) accepted
+    no_more role k f other = go (step_of most want v) refl
+      where
+        go : (t : Step) → t ≡ step_of most want v → accepted ≡ tests_from most counts table_start (source.code 0) accepted
+        go (More to) g = absurd (other to (sym g))
+        go Last g = says_so role k Fine f Last g
+        go Bad g = says_so role k Fine f Bad g
 
     pub goes_on : (role : Role) (to : Want) → role ≡ role_of want → Fine ≡ test_says counts role v → More to ≡ step_of most want v →
-        Tests most counts accepted from_bytes s xs to next
+        Tests most counts accepted source to next
     goes_on role to k f t = record { left = says_so role k Fine f (More to) t; inside = passes.1 }

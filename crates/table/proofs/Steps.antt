@@ -1,16 +1,13 @@
 -- What the two looks say of one number, by what the machine and the second look say of it; and where no number stands.
 -- Assumes nothing.
+use Rattle.std.specs.Prelude.{Err}
 use Prim.Native.Nat.{ℕ, ◌+◌, ◌≤◌, ◌<◌}
 use mathlib.Core.Path.{◌≡◌}
-use mathlib.Core.Bool.{Bool}
 use mathlib.Core.List.{List}
-use Rattle.coding.specs.Code.{Code, item, source_number, source_size, source_at}
-use Rattle.coding.specs.declared.Cause.{Cause}
+use Rattle.coding.specs.declared.Refusal.{Refusal}
+use Rattle.coding.specs.Refusal.{Answer, value_then, refused_at}
+use Rattle.coding.specs.Code.{Code, item, Places, Turn, Turns}
 use Rattle.coding.specs.declared.Cause.TheVariants.{NotAllowed}
-use Rattle.coding.specs.declared.Number.TheVariants.{Value, Fault}
-use Rattle.coding.specs.declared.Answer.{Answer}
-use Rattle.coding.specs.declared.Answer.TheVariants.{Refused}
-use Rattle.coding.proofs.Source.{Turn, turn}
 use Rattle.ranges.specs.Order.{step_of}
 use Rattle.ranges.specs.declared.Want.{Want}
 use Rattle.ranges.specs.declared.Step.{Step}
@@ -21,7 +18,7 @@ use Rattle.table.specs.Table.{role_of, noted, test_says, ended, check, counts_fr
 
 -- what a row says whose first number, at place p, leads to this step; and of a test, by what is said of it
 abbrev pub checks : ℕ → ℕ → ℕ → Code → Step → Answer
-checks most n p c t = elim t [ More to ↦ check most to (n + 1) c | Last ↦ ended (n + 1) c | Bad ↦ Refused NotAllowed p ]
+checks most n p c t = elim t [ More to ↦ check most to (n + 1) c | Last ↦ ended (n + 1) c | Bad ↦ refused_at NotAllowed p ]
 
 abbrev pub counts : ℕ → List ℕ → List ℕ → Code → Step → List ℕ
 counts most before after c t = elim t [ More to ↦ counts_from most to after c | Last ↦ before | Bad ↦ before ]
@@ -30,7 +27,7 @@ abbrev pub tests : ℕ → List ℕ → Answer → Code → Step → Answer
 tests most kept accepted c t = elim t [ More to ↦ tests_from most kept to c accepted | Last ↦ accepted | Bad ↦ accepted ]
 
 abbrev pub shows : Answer → ℕ → Answer → Ruling → Answer
-shows fine p accepted says = elim says [ Fine ↦ fine | Wrong ↦ Refused NotAllowed p | Behind ↦ accepted ]
+shows fine p accepted says = elim says [ Fine ↦ fine | Wrong ↦ refused_at NotAllowed p | Behind ↦ accepted ]
 
 module _ (most : ℕ) (want : Want) (p v : ℕ) (c : Code) (t : Step) (e : t ≡ step_of most want v) where
   pub check_item : (n : ℕ) → checks most n p c t ≡ check most want n (item p v c)
@@ -49,10 +46,10 @@ module _ (most : ℕ) (want : Want) (p v : ℕ) (c : Code) (t : Step) (e : t ≡
   tests_item kept accepted Behind f = rw (tests_from, ← f)
 
 -- what the number at a place says of the rest of the source
-module _ (from_bytes : Bool) (s xs : List ℕ) (at : ℕ) where
-  pub turned : (v next : ℕ) → Value v next ≡ source_number from_bytes s xs at →
-      (source_at from_bytes s xs at ≡ item at v (source_at from_bytes s xs next)) × (at < next) × (next ≤ source_size from_bytes s xs)
-  turned v next e = rw (← e) at (turn from_bytes s xs at)
+module _ (source : Places) (turns : Turns source) (at : ℕ) where
+  pub turned : (v next : ℕ) → value_then v next ≡ source.number at →
+      (source.code at ≡ item at v (source.code next)) × (at < next) × (next ≤ source.size)
+  turned v next e = rw (← e) at (turns at)
 
-  pub stopped : (cause : Cause) (q : ℕ) → Fault cause q ≡ source_number from_bytes s xs at → Turn (source_at from_bytes s xs) (source_size from_bytes s xs) at (Fault cause q)
-  stopped cause q e = rw (← e) at (turn from_bytes s xs at)
+  pub stopped : (why : Refusal) → Err why ≡ source.number at → Turn source at (Err why)
+  stopped why e = rw (← e) at (turns at)

@@ -4,7 +4,7 @@ use mathlib.Core.Path.{◌≡◌}
 use contract.Lifetimes.{Lfts}
 use borrow.Fn.Kinds.{Dens, ended_of}
 use denote.Triple.Clauses.{AtExit}
-use Rattle.coding.specs.declared.Answer.{Answer}
+use Rattle.coding.specs.Refusal.{Answer}
 use Rattle.coding.proofs.Unique.{one_storing}
 use Rattle.table.proofs.read_table.Kinds as read_table
 use Rattle.table.proofs.read_table.Reads as read_table_reads

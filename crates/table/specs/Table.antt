@@ -1,11 +1,10 @@
 -- The grammars of a table and of an inputs record. Document 01, Numbers of refusal: "Codes are read left to right and the first fault counts ..;
 -- then left-over bytes; then kind 2's a (1 to the process count) and b, left to right."
 -- Assumes nothing: these are definitions.
-use Rattle.std.specs.Prelude.{ℕ, ◌+◌, Bool, true, List, get_or, set, replicate, ltb, leb, eqb}
+use Rattle.coding.specs.Refusal.{Answer, refused_at}
+use Rattle.std.specs.Prelude.{ℕ, ◌+◌, Bool, true, List, get_or, set, replicate, ltb, leb, eqb, Ok, Err}
 use Rattle.coding.specs.Code.{Code, item, end, broken}
 use Rattle.coding.specs.declared.Cause.TheVariants.{CutShort, LeftOver, NotAllowed}
-use Rattle.coding.specs.declared.Answer.{Answer}
-use Rattle.coding.specs.declared.Answer.TheVariants.{Count, Refused}
 use Rattle.ranges.specs.Limits.{most_variables, err_state}
 use Rattle.ranges.specs.Values.{pick, within}
 use Rattle.ranges.specs.Order.{step_of}
@@ -19,20 +18,20 @@ use Rattle.ranges.specs.declared.Step.TheVariants.{More, Last, NotAllowed as Bad
 
 -- Nothing may be left over.
 abbrev pub ended : ℕ → Code → Answer
-ended n (item p v c) = Refused LeftOver p
-ended n (end p) = Count n
-ended n (broken cause p) = Refused LeftOver p
+ended n (item p v c) = refused_at LeftOver p
+ended n (end p) = Ok n
+ended n (broken cause p) = refused_at LeftOver p
 
 -- The same by places: so many bytes or numbers there are, and all before `next` are taken.
 unfoldable pub ended_at : ℕ → ℕ → ℕ → Answer
-ended_at n next size = pick (ltb next size) (Refused LeftOver next) (Count n)
+ended_at n next size = pick (ltb next size) (refused_at LeftOver next) (Ok n)
 
 -- The first fault from left to right, then what is left over, where `want` is wanted and n numbers are behind.
 unfoldable pub check : ℕ → Want → ℕ → Code → Answer
 check most want n (item p v c) =
-    elim (step_of most want v) [ More next ↦ check most next (n + 1) c | Last ↦ ended (n + 1) c | Bad ↦ Refused NotAllowed p ]
-check most want n (end p) = Refused CutShort p
-check most want n (broken cause p) = Refused cause p
+    elim (step_of most want v) [ More next ↦ check most next (n + 1) c | Last ↦ ended (n + 1) c | Bad ↦ refused_at NotAllowed p ]
+check most want n (end p) = refused_at CutShort p
+check most want n (broken cause p) = refused_at cause p
 
 -- What a number that is wanted is to the second look at the tests.
 abbrev pub role_of : Want → Role
@@ -91,7 +90,7 @@ unfoldable pub tests_from : ℕ → List ℕ → Want → Code → Answer → An
 tests_from most counts want (item p v c) accepted =
     elim (test_says counts (role_of want) v) [
       | Fine ↦ elim (step_of most want v) [ More next ↦ tests_from most counts next c accepted | Last ↦ accepted | Bad ↦ accepted ]
-      | Wrong ↦ Refused NotAllowed p
+      | Wrong ↦ refused_at NotAllowed p
       | Behind ↦ accepted
     ]
 tests_from most counts want (end p) accepted = accepted
@@ -106,8 +105,8 @@ abbrev pub table_start : Want
 table_start = Inputs
 
 abbrev pub tested : ℕ → Code → Answer → Answer
-tested most c (Count n) = tests_from most (counts_from most table_start no_counts c) table_start c (Count n)
-tested most c (Refused cause place) = Refused cause place
+tested most c (Ok n) = tests_from most (counts_from most table_start no_counts c) table_start c (Ok n)
+tested most c (Err why) = Err why
 
 -- A table of at most `most` processes.
 unfoldable pub table_grammar : ℕ → Code → Answer
@@ -115,4 +114,4 @@ table_grammar most c = tested most c (check most table_start 0 c)
 
 -- "Inputs take the input count along; above 32 is refusal 2 at 0, first."
 unfoldable pub inputs_grammar : ℕ → Code → Answer
-inputs_grammar inputs c = pick (ltb most_variables inputs) (Refused NotAllowed 0) (check 0 (Scans inputs) 0 c)
+inputs_grammar inputs c = pick (ltb most_variables inputs) (refused_at NotAllowed 0) (check 0 (Scans inputs) 0 c)

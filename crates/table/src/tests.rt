@@ -1,10 +1,9 @@
 // The second look at a table: kind 2's a and b, which name a process and one of its states.
-ghost use Rattle.std.specs.Prelude.{◌≡◌, get_or};
-ghost use Rattle.coding.specs.Code.{source_at};
+ghost use Rattle.std.specs.Prelude.{◌≡◌, get_or, Ok};
 ghost use Rattle.table.specs.Table.{table_start, state_ok, fine_if, test_says, tests_from};
 
 use crate::Role;
-use coding::{Answer, Cause, Number};
+use coding::{Answer, Cause, Source};
 use ranges::{Step, Want};
 
 // What the second look says of a number: fine, wrong, or that all the tests are behind.
@@ -37,11 +36,7 @@ fn state_ok(states: u16, b: u16) -> bool
 fn count_at(counts: &[u16], i: u16) -> u16
     ensures { result ≡ get_or counts.now i 0 }
 {
-    let at = i as usize;
-    if at < counts.len() {
-        return counts[at];
-    }
-    0
+    counts.get(i as usize).copied().unwrap_or(0)
 }
 
 fn test_says(counts: &[u16], role: Role, v: u16) -> Ruling
@@ -66,44 +61,27 @@ fn test_says(counts: &[u16], role: Role, v: u16) -> Ruling
     }
 }
 
-// The tests of a source of which everything else is accepted.
-pub fn second_look(
-    most: u16,
-    counts: &[u16],
-    accepted: Answer,
-    from_bytes: bool,
-    code: &[u8],
-    numbers: &[u16],
-) -> Answer
-    ensures { result ≡ tests_from most counts.now table_start (source_at from_bytes code.now numbers.now 0) accepted }
+// The tests of a source of which everything else is accepted, with so many numbers.
+pub fn second_look<S: Source>(most: u16, counts: &[u16], accepted: usize, source: S) -> Answer
+    ensures { result ≡ tests_from most counts.now table_start ((S.places source).code 0) (Ok accepted) }
 {
     let mut want = Want::Inputs;
     let mut at: usize = 0;
-    loop {
-        match coding::number_at(from_bytes, code, numbers, at) {
-            Number::Fault(_, _) => {
-                return accepted;
+    while let Ok(number) = source.number_at(at) {
+        match test_says(counts, crate::role_of(want), number.value) {
+            Ruling::Wrong => {
+                return Err(Cause::NotAllowed.at(at));
             }
-            Number::Value(v, next) => match test_says(counts, crate::role_of(want), v) {
-                Ruling::Wrong => {
-                    return Answer::Refused(Cause::NotAllowed, at);
-                }
-                Ruling::Behind => {
-                    return accepted;
-                }
-                Ruling::Fine => match ranges::advance(most, want, v) {
-                    Step::NotAllowed => {
-                        return accepted;
-                    }
-                    Step::Last => {
-                        return accepted;
-                    }
-                    Step::More(more) => {
-                        want = more;
-                        at = next;
-                    }
-                },
-            },
+            Ruling::Behind => {
+                return Ok(accepted);
+            }
+            Ruling::Fine => {}
         }
+        let Step::More(more) = ranges::advance(most, want, number.value) else {
+            return Ok(accepted);
+        };
+        want = more;
+        at = number.next;
     }
+    Ok(accepted)
 }

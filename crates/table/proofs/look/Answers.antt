@@ -1,56 +1,62 @@
 use native.Mathlib.Omega.{arith}
 use mathlib.Core.Path.{sym, ◌∙◌}
+use Rattle.std.proofs.lemmas.Result.{err_from_is_err_and}
 use Rattle.table.proofs.FirstLook.{begins, skipped, stops, passes, refuses, finishes, goes_on}
 use Rattle.table.proofs.look.Goals as goal
 
-pub loop-cause-init : goal.loop-cause-init
-loop-cause-init c = begins _ _ _ _ _
+pub loop-number-init : goal.loop-number-init
+loop-number-init g c = begins _ _ _
 
-pub returns-in-Fault : goal.returns-in-Fault
-returns-in-Fault c =
-    stops (skipped c.loop-cause.invariant c.skip-stand.ensures) _ _ (sym c.in-Fault.is ∙ c.number_at.ensures)
+pub returns-in_err-number : goal.returns-in_err-number
+returns-in_err-number g c =
+    let turns = g.met.S.Source.turns c.args.source in
+    let here = skipped c.loop-number.invariant c.skip-stand.ensures in
+    let p = err_from_is_err_and c.from_residual.result c.from_residual.ensures.1 in
+    rw (p.1, p.2) (stops turns here _ c.in_err-number.ensures)
 
 pub returns-in-NotAllowed : goal.returns-in-NotAllowed
-returns-in-NotAllowed c =
-    refuses (skipped c.loop-cause.invariant c.skip-stand.ensures) _ _ (sym c.in-Value.is ∙ c.number_at.ensures)
-    (sym c.in-NotAllowed.is ∙ c.advance.ensures)
+returns-in-NotAllowed g c =
+    let turns = g.met.S.Source.turns c.args.source in
+    let here = skipped c.loop-number.invariant c.skip-stand.ensures in
+    rw c.at.ensures (refuses turns here _ _ c.in_ok-number.ensures (sym c.in-NotAllowed.is ∙ c.advance.ensures))
 
 pub overflow_add-n : goal.overflow_add-n
-overflow_add-n c =
-    omega (
-      arith,
-      passes (skipped c.loop-cause.invariant c.skip-stand.ensures) _ _
-          (sym c.in-Value.is ∙ c.number_at.ensures),
-    )
+overflow_add-n g c =
+    let turns = g.met.S.Source.turns c.args.source in
+    let here = skipped c.loop-number.invariant c.skip-stand.ensures in
+    omega (arith, passes turns here _ _ c.in_ok-number.ensures)
+
+pub returns-in_err-count-in-Last : goal.returns-in_err-count-in-Last
+returns-in_err-count-in-Last g c =
+    let turns = g.met.S.Source.turns c.args.source in
+    let here = skipped c.loop-number.invariant c.skip-stand.ensures in
+    let p = err_from_is_err_and c.from_residual-in_err-count-in-Last.result c.from_residual-in_err-count-in-Last.ensures.1 in
+    rw (p.1, p.2)
+    (finishes turns here _ _ c.in_ok-number.ensures _ _ c.size.ensures c.in_err-count-in-Last.ensures (sym c.in-Last.is ∙ c.advance.ensures)).0
 
 pub returns-in-Last : goal.returns-in-Last
-returns-in-Last c =
-    finishes (skipped c.loop-cause.invariant c.skip-stand.ensures) _ _ (sym c.in-Value.is ∙ c.number_at.ensures) _ _
-    c.size_at-size.ensures c.ended_at-answer.ensures (sym c.in-Last.is ∙ c.advance.ensures)
+returns-in-Last g c =
+    let turns = g.met.S.Source.turns c.args.source in
+    let here = skipped c.loop-number.invariant c.skip-stand.ensures in
+    finishes turns here _ _ c.in_ok-number.ensures _ _ c.size.ensures c.in_ok-count-in-Last.ensures (sym c.in-Last.is ∙ c.advance.ensures)
 
 pub slice_bounds-note-end : goal.slice_bounds-note-end
-slice_bounds-note-end c =
-    sym c.loop-cause.invariant.room
+slice_bounds-note-end g c = sym c.loop-number.invariant.room
 
 pub overflow_add-n-in-More : goal.overflow_add-n-in-More
-overflow_add-n-in-More c =
-    omega (
-      arith,
-      passes (skipped c.loop-cause.invariant c.skip-stand.ensures) _ _
-          (sym c.in-Value.is ∙ c.number_at.ensures),
-    )
+overflow_add-n-in-More g c =
+    let turns = g.met.S.Source.turns c.args.source in
+    let here = skipped c.loop-number.invariant c.skip-stand.ensures in
+    omega (arith, passes turns here _ _ c.in_ok-number.ensures)
 
-pub loop-cause-smaller : goal.loop-cause-smaller
-loop-cause-smaller c =
-    omega (
-      arith,
-      c.skip-stand.ensures.later,
-      passes (skipped c.loop-cause.invariant c.skip-stand.ensures) _ _
-          (sym c.in-Value.is ∙ c.number_at.ensures),
-    )
+pub loop-number-smaller : goal.loop-number-smaller
+loop-number-smaller g c =
+    let turns = g.met.S.Source.turns c.args.source in
+    let here = skipped c.loop-number.invariant c.skip-stand.ensures in
+    omega (arith, c.skip-stand.ensures.later, passes turns here _ _ c.in_ok-number.ensures)
 
-pub loop-cause-preserved : goal.loop-cause-preserved
-loop-cause-preserved c =
-    goes_on (skipped c.loop-cause.invariant c.skip-stand.ensures) _ _ (sym c.in-Value.is ∙ c.number_at.ensures) _ _ _
-    (sym c.in-More.is ∙ c.advance.ensures)
-    c.role_of.ensures c.note.ensures c.note.auto.counts
+pub loop-number-preserved : goal.loop-number-preserved
+loop-number-preserved g c =
+    let turns = g.met.S.Source.turns c.args.source in
+    let here = skipped c.loop-number.invariant c.skip-stand.ensures in
+    goes_on turns here _ _ c.in_ok-number.ensures _ _ _ (sym c.in-More.is ∙ c.advance.ensures) c.role_of.ensures c.note.ensures c.note.auto.counts

@@ -1,10 +1,9 @@
 use Prim.Native.Nat.{◌-◌}
-use Rattle.coding.specs.Code.{source_size}
 use Rattle.table.proofs.FirstLook.{Looks}
 use Rattle.table.proofs.look.Given as goal
 
-abbrev pub invariant-loop-cause : goal.invariant-loop-cause
-invariant-loop-cause l = Looks l.most l.from_bytes l.code l.numbers l.initial.want l.counts l.want l.at l.n
+abbrev pub invariant-loop-number : goal.invariant-loop-number
+invariant-loop-number g l = Looks l.most (g.S.Source.places l.source) l.fn.first l.counts l.want l.at l.n
 
-abbrev pub decreases-loop-cause : goal.decreases-loop-cause
-decreases-loop-cause l = source_size l.from_bytes l.code l.numbers - l.at
+abbrev pub decreases-loop-number : goal.decreases-loop-number
+decreases-loop-number g l = (g.S.Source.places l.source).size - l.at

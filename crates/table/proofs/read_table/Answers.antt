@@ -4,5 +4,4 @@ use Rattle.table.proofs.Whole.{reads}
 use Rattle.table.proofs.read_table.Goals as goal
 
 pub returns : goal.returns
-returns c =
-    reads (table_grammar most_processes) _ _ _ _ _ _ c.check_table-checked.ensures c.read_checked.ensures
+returns c = reads (table_grammar most_processes) _ _ _ _ _ c.check_table.ensures c.read_checked.ensures
