@@ -6,18 +6,12 @@ use mathlib.Core.Path.{◌≡◌}
 use mathlib.Core.List.{List, [], ◌∷◌}
 use lib.ListN.{length, drop}
 use lib.Dec.{ltb, leb, eqb}
+use Rattle.coding.specs.Refusal.{NumberRead, Answer}
+use Rattle.std.specs.Prelude.{Ok, Err}
 use Rattle.coding.specs.Number.{Begin, number, none as no_number, first, second, third, placed, number_at}
 use Rattle.coding.specs.declared.Cause.{Cause}
 use Rattle.coding.specs.declared.Cause.TheVariants.{CutShort, NotShortest, TooLarge, LeftOver, NotAllowed, NameAbsent}
-use Rattle.coding.specs.declared.Number.{Number}
-use Rattle.coding.specs.declared.Number.TheVariants.{Value, Fault}
-use Rattle.coding.specs.declared.Answer.{Answer}
-use Rattle.coding.specs.declared.Answer.TheVariants.{Count, Refused}
-use Rattle.sheet.specs.Sheet.{longest_name, text_of, text_at, name_of, name_at, body_after, entry_of, entry_at, check_entry, check_from}
-use Rattle.sheet.specs.declared.Text.{Text}
-use Rattle.sheet.specs.declared.Text.TheVariants.{Part, Fault as NoText}
-use Rattle.sheet.specs.declared.Entry.{Entry}
-use Rattle.sheet.specs.declared.Entry.TheVariants.{Named, Bad}
+use Rattle.sheet.specs.Sheet.{longest_name, text_of, text_at, name_of, name_at, body_after, entry_of, entry_at, check_entry, check_from, TextAt, EntryAt}
 use Rattle.sheet.proofs.Laws.{by}
 
 abbrev pub NotAbsent : Cause → Type 0
@@ -57,9 +51,9 @@ begin_fault (a ∷ s) = by BeginFault (ltb a 128) (λ t. tt) (λ t. two s)
         by BeginFault (eqb b 0) (λ t. not_shortest) (λ t. by BeginFault (ltb b 128) (λ u. tt) (λ u. three _ r))
 
 module _ (s : List ℕ) where
-  abbrev pub NumberFault : Number → Type 0
-  NumberFault (Value v next) = Unit {0}
-  NumberFault (Fault cause place) = NotAbsent cause
+  abbrev pub NumberFault : NumberRead → Type 0
+  NumberFault (Ok num) = Unit {0}
+  NumberFault (Err why) = NotAbsent why.cause
 
   pub number_fault : (at : ℕ) → NumberFault (number_at s at)
   unfolding number_at
@@ -69,54 +63,54 @@ module _ (s : List ℕ) where
       go (number v k) h = tt
       go (no_number cause) h = h
 
-  abbrev TextFault : Text → Type 0
-  TextFault (Part begin end) = Unit {0}
-  TextFault (NoText cause place) = NotAbsent cause
+  abbrev TextFault : TextAt → Type 0
+  TextFault (Ok span) = Unit {0}
+  TextFault (Err why) = NotAbsent why.cause
 
   text_fault : (at : ℕ) → TextFault (text_at s at)
   unfolding text_at
   text_fault at = go (number_at s at) (number_fault at)
     where
-      go : (m : Number) → NumberFault m → TextFault (text_of s at m)
-      go (Value n begin) h = by TextFault (leb (begin + n) (length s)) (λ t. tt) (λ t. cut_short)
-      go (Fault cause place) h = h
+      go : (m : NumberRead) → NumberFault m → TextFault (text_of s at m)
+      go (Ok num) h = by TextFault (leb (num.next + num.value) (length s)) (λ t. tt) (λ t. cut_short)
+      go (Err why) h = h
 
   name_fault : (at : ℕ) → TextFault (name_at s at)
   unfolding name_at
   name_fault at = go (number_at s at) (number_fault at)
     where
-      go : (m : Number) → NumberFault m → TextFault (name_of s at m)
-      go (Value n begin) h =
-          by TextFault (eqb n 0) (λ t. not_allowed)
-          (λ t. by TextFault (ltb longest_name n) (λ u. not_allowed) (λ u. text_fault at))
-      go (Fault cause place) h = h
+      go : (m : NumberRead) → NumberFault m → TextFault (name_of s at m)
+      go (Ok num) h =
+          by TextFault (eqb num.value 0) (λ t. not_allowed)
+          (λ t. by TextFault (ltb longest_name num.value) (λ u. not_allowed) (λ u. text_fault at))
+      go (Err why) h = h
 
-  abbrev EntryFault : Entry → Type 0
-  EntryFault (Named begin end body next) = Unit {0}
-  EntryFault (Bad cause place) = NotAbsent cause
+  abbrev EntryFault : EntryAt → Type 0
+  EntryFault (Ok entry) = Unit {0}
+  EntryFault (Err why) = NotAbsent why.cause
 
   entry_fault : (at : ℕ) → EntryFault (entry_at s at)
   unfolding entry_at
   entry_fault at = named (name_at s at) (name_fault at)
     where
-      bodied : (begin end : ℕ) (t : Text) → TextFault t → EntryFault (body_after begin end t)
-      bodied begin end (Part body next) h = tt
-      bodied begin end (NoText cause place) h = h
+      bodied : (begin end : ℕ) (t : TextAt) → TextFault t → EntryFault (body_after begin end t)
+      bodied begin end (Ok span) h = tt
+      bodied begin end (Err why) h = h
 
-      named : (t : Text) → TextFault t → EntryFault (entry_of s t)
-      named (Part begin end) h = bodied begin end (text_at s end) (text_fault end)
-      named (NoText cause place) h = h
+      named : (t : TextAt) → TextFault t → EntryFault (entry_of s t)
+      named (Ok span) h = bodied span.begin span.end (text_at s span.end) (text_fault span.end)
+      named (Err why) h = h
 
   abbrev pub CheckFault : Answer → Type 0
-  CheckFault (Count n) = Unit {0}
-  CheckFault (Refused cause place) = NotAbsent cause
+  CheckFault (Ok n) = Unit {0}
+  CheckFault (Err why) = NotAbsent why.cause
 
   pub check_fault : (count left at : ℕ) → CheckFault (check_from s count left at)
   unfolding check_from
   check_fault count zero at = by CheckFault (ltb at (length s)) (λ t. left_over) (λ t. tt)
   check_fault count (suc left) at = go (entry_at s at) (entry_fault at) (λ next. check_fault count left next)
     where
-      go : (n : Entry) → EntryFault n → ((next : ℕ) → CheckFault (check_from s count left next)) →
+      go : (n : EntryAt) → EntryFault n → ((next : ℕ) → CheckFault (check_from s count left next)) →
           CheckFault (check_entry (λ next. check_from s count left next) n)
-      go (Named begin end body next) h rest = rest next
-      go (Bad cause place) h rest = h
+      go (Ok entry) h rest = rest entry.body.end
+      go (Err why) h rest = h

@@ -3,25 +3,19 @@
 use Prim.Native.Nat.{ℕ, zero, suc, ◌+◌, ◌-◌, ◌≤◌, ◌<◌}
 use native.Mathlib.Omega.{arith}
 use mathlib.Core.Path.{◌≡◌, refl, sym}
+use mathlib.Core.Logic.{◌⊎◌, inl, inr}
 use mathlib.Core.List.{List, [], ◌∷◌}
 use mathlib.Core.Bool.{Bool, true, false}
 use lib.ListN.{length}
 use lib.Dec.{ltb, leb, eqb}
 use borrow.Author.Tests.{lt-ltb, le-ltb, le-leb, lt-leb, eq-eqb, ne_eqb, leb-true, ltb-false, eqb-true, eqb-false}
+use Rattle.coding.specs.Refusal.{NumberRead, value_then, refused_at}
+use Rattle.std.specs.Prelude.{Ok, Err}
 use Rattle.coding.specs.Number.{pick, number_at}
-use Rattle.coding.proofs.Rows.{next_row}
+use Rattle.coding.specs.Working.Rows.{next_row}
 use Rattle.coding.specs.declared.Cause.{Cause}
 use Rattle.coding.specs.declared.Cause.TheVariants.{CutShort, LeftOver, NotAllowed, NameAbsent}
-use Rattle.coding.specs.declared.Number.{Number}
-use Rattle.coding.specs.declared.Number.TheVariants.{Value, Fault}
-use Rattle.coding.specs.declared.Answer.TheVariants.{Count, Refused}
-use Rattle.sheet.specs.Sheet.{eqbs, part, text_of, text_at, name_of, name_at, body_after, entry_of, entry_at, check_entry, check_from, seek_entry, seek_from, find_in, body_of, start_of, longest_name, most_entries}
-use Rattle.sheet.specs.declared.Text.{Text}
-use Rattle.sheet.specs.declared.Text.TheVariants.{Part, Fault as NoText}
-use Rattle.sheet.specs.declared.Entry.{Entry}
-use Rattle.sheet.specs.declared.Entry.TheVariants.{Named, Bad}
-use Rattle.sheet.specs.declared.Found.{Found}
-use Rattle.sheet.specs.declared.Found.TheVariants.{Body, Refused as NotFound}
+use Rattle.sheet.specs.Sheet.{eqbs, part, text_of, text_at, name_of, name_at, body_after, entry_of, entry_at, check_entry, check_from, seek_entry, seek_from, find_in, body_of, start_of, longest_name, most_entries, TextAt, EntryAt, Lookup, span_from, entry_from}
 
 -- a fact about a choice, from the fact about each side
 pub by : {A : Type 0} (P : A → Type 0) (t : Bool) {x y : A} → (t ≡ true → P x) → (t ≡ false → P y) → P (pick t x y)
@@ -55,60 +49,57 @@ same_is xs ys false f g = go (eqbs xs ys) (λ e. g (eqbs_eq xs ys e))
 
 -- ---- the ways through `text_at` and `name_at`
 module _ (s : List ℕ) (at : ℕ) where
-  module _ (cause : Cause) (place : ℕ) (q : Fault cause place ≡ number_at s at) where
-    pub no_text : NoText cause place ≡ text_at s at
+  module _ (cause : Cause) (place : ℕ) (q : refused_at cause place ≡ number_at s at) where
+    pub no_text : refused_at cause place ≡ text_at s at
     unfolding text_at
     no_text = rw (← q)
 
-    pub no_name : NoText cause place ≡ name_at s at
+    pub no_name : refused_at cause place ≡ name_at s at
     unfolding name_at
     no_name = rw (← q)
 
-  module _ (n begin : ℕ) (q : Value n begin ≡ number_at s at) where
+  module _ (n begin : ℕ) (q : value_then n begin ≡ number_at s at) where
     pub begins_inside : begin ≤ length s
     begins_inside = (next_row s at n begin q).2
 
-    text_of_lem : text_at s at ≡ text_of s at (Value n begin)
+    text_of_lem : text_at s at ≡ text_of s at (value_then n begin)
     unfolding text_at
     text_of_lem = rw (← q)
 
-    pub text_cut : length s - begin < n → NoText CutShort at ≡ text_at s at
+    pub text_cut : length s - begin < n → refused_at CutShort at ≡ text_at s at
     text_cut l = let b = begins_inside in rw (text_of_lem, lt-leb (begin + n) (length s) (omega arith))
 
-    pub text_whole : n ≤ length s - begin → Part begin (begin + n) ≡ text_at s at
+    pub text_whole : n ≤ length s - begin → span_from begin (begin + n) ≡ text_at s at
     text_whole l = let b = begins_inside in rw (text_of_lem, le-leb (begin + n) (length s) (omega arith))
 
-    pub name_empty : n ≡ 0 → NoText NotAllowed at ≡ name_at s at
+    pub name_bad : (n ≡ 0) ⊎ ((n ≡ 0 → ⊥) × (longest_name < n)) → refused_at NotAllowed at ≡ name_at s at
     unfolding name_at
-    name_empty z = rw (← q, eq-eqb _ _ z)
+    name_bad (inl z) = rw (← q, eq-eqb _ _ z)
+    name_bad (inr l) = rw (← q, ne_eqb _ _ l.0, lt-ltb _ _ l.1)
 
     module _ (nz : n ≡ 0 → ⊥) where
-      pub name_long : longest_name < n → NoText NotAllowed at ≡ name_at s at
-      unfolding name_at
-      name_long l = rw (← q, ne_eqb _ _ nz, lt-ltb _ _ l)
-
       pub name_fits : n ≤ longest_name → text_at s at ≡ name_at s at
       unfolding name_at
       name_fits l = rw (← q, ne_eqb _ _ nz, le-ltb _ _ l)
 
 -- ---- the ways through `entry_at`
 module _ (s : List ℕ) (at : ℕ) where
-  pub entry_no_name : (cause : Cause) (place : ℕ) → NoText cause place ≡ name_at s at → Bad cause place ≡ entry_at s at
+  pub entry_no_name : (cause : Cause) (place : ℕ) → refused_at cause place ≡ name_at s at → refused_at cause place ≡ entry_at s at
   unfolding entry_at
   entry_no_name cause place q = rw (← q)
 
-  module _ (name name_end : ℕ) (q : Part name name_end ≡ name_at s at) where
-    pub entry_no_body : (cause : Cause) (place : ℕ) → NoText cause place ≡ text_at s name_end → Bad cause place ≡ entry_at s at
+  module _ (name name_end : ℕ) (q : span_from name name_end ≡ name_at s at) where
+    pub entry_no_body : (cause : Cause) (place : ℕ) → refused_at cause place ≡ text_at s name_end → refused_at cause place ≡ entry_at s at
     unfolding entry_at
     entry_no_body cause place r = rw (← q, ← r)
 
-    pub entry_whole : (body body_end : ℕ) → Part body body_end ≡ text_at s name_end → Named name name_end body body_end ≡ entry_at s at
+    pub entry_whole : (body body_end : ℕ) → span_from body body_end ≡ text_at s name_end → entry_from name name_end body body_end ≡ entry_at s at
     unfolding entry_at
     entry_whole body body_end r = rw (← q, ← r)
 
 -- ---- the turns of `check_entries`
 module _ (s : List ℕ) (count : ℕ) where
-  check_end : (left at : ℕ) → left ≤ 0 → check_from s count left at ≡ pick (ltb at (length s)) (Refused LeftOver at) (Count count)
+  check_end : (left at : ℕ) → left ≤ 0 → check_from s count left at ≡ pick (ltb at (length s)) (refused_at LeftOver at) (Ok count)
   unfolding check_from
   check_end zero at h = refl
   check_end (suc left) at h = absurd (omega arith)
@@ -119,22 +110,22 @@ module _ (s : List ℕ) (count : ℕ) where
   check_turn (suc left) at h = let one : suc left - 1 ≡ left = omega arith in rw one
 
   module _ (left at : ℕ) where
-    pub check_over : left ≤ 0 → at < length s → Refused LeftOver at ≡ check_from s count left at
+    pub check_over : left ≤ 0 → at < length s → refused_at LeftOver at ≡ check_from s count left at
     check_over h l = rw (check_end left at h, lt-ltb _ _ l)
 
-    pub check_done : left ≤ 0 → length s ≤ at → Count count ≡ check_from s count left at
+    pub check_done : left ≤ 0 → length s ≤ at → Ok count ≡ check_from s count left at
     check_done h l = rw (check_end left at h, le-ltb _ _ l)
 
-    pub check_bad : (cause : Cause) (place : ℕ) → 0 < left → Bad cause place ≡ entry_at s at → Refused cause place ≡ check_from s count left at
+    pub check_bad : (cause : Cause) (place : ℕ) → 0 < left → refused_at cause place ≡ entry_at s at → refused_at cause place ≡ check_from s count left at
     check_bad cause place h q = rw (check_turn left at h, ← q)
 
-    pub check_next : (begin end body next : ℕ) → 0 < left → Named begin end body next ≡ entry_at s at →
+    pub check_next : (begin end body next : ℕ) → 0 < left → entry_from begin end body next ≡ entry_at s at →
         check_from s count (left - 1) next ≡ check_from s count left at
     check_next begin end body next h q = rw (check_turn left at h, ← q)
 
 -- ---- the turns of `seek`
 module _ (s name : List ℕ) where
-  pub seek_end : (left at : ℕ) → left ≤ 0 → NotFound NameAbsent 0 ≡ seek_from s name left at
+  pub seek_end : (left at : ℕ) → left ≤ 0 → refused_at NameAbsent 0 ≡ seek_from s name left at
   unfolding seek_from
   seek_end zero at h = refl
   seek_end (suc left) at h = absurd (omega arith)
@@ -145,11 +136,11 @@ module _ (s name : List ℕ) where
   seek_turn (suc left) at h = let one : suc left - 1 ≡ left = omega arith in rw one
 
   module _ (left at : ℕ) (h : 0 < left) where
-    pub seek_bad : (cause : Cause) (place : ℕ) → Bad cause place ≡ entry_at s at → NotFound cause place ≡ seek_from s name left at
+    pub seek_bad : (cause : Cause) (place : ℕ) → refused_at cause place ≡ entry_at s at → refused_at cause place ≡ seek_from s name left at
     seek_bad cause place q = rw (seek_turn left at h, ← q)
 
-    module _ (begin end body next : ℕ) (q : Named begin end body next ≡ entry_at s at) (r : Bool) (t : r ≡ eqbs (part s begin end) name) where
-      pub seek_this : r ≡ true → Body body next ≡ seek_from s name left at
+    module _ (begin end body next : ℕ) (q : entry_from begin end body next ≡ entry_at s at) (r : Bool) (t : r ≡ eqbs (part s begin end) name) where
+      pub seek_this : r ≡ true → span_from body next ≡ seek_from s name left at
       seek_this y = rw (seek_turn left at h, ← q, ← t, y)
 
       pub seek_next : r ≡ false → seek_from s name (left - 1) next ≡ seek_from s name left at
@@ -157,27 +148,27 @@ module _ (s name : List ℕ) where
 
 -- ---- the ways through `find`
 module _ (s name : List ℕ) where
-  pub find_uncounted : (cause : Cause) (place : ℕ) → Fault cause place ≡ number_at s 0 → NotFound cause place ≡ find_in s name
+  pub find_uncounted : (cause : Cause) (place : ℕ) → refused_at cause place ≡ number_at s 0 → refused_at cause place ≡ find_in s name
   unfolding find_in
   find_uncounted cause place q = rw (← q)
 
-  module _ (count start : ℕ) (q : Value count start ≡ number_at s 0) where
-    pub find_many : most_entries < count → NotFound NotAllowed 0 ≡ find_in s name
+  module _ (count start : ℕ) (q : value_then count start ≡ number_at s 0) where
+    pub find_many : most_entries < count → refused_at NotAllowed 0 ≡ find_in s name
     unfolding find_in
     find_many l = rw (← q, lt-ltb _ _ l)
 
     module _ (l : count ≤ most_entries) where
-      pub find_faulty : (cause : Cause) (place : ℕ) → Refused cause place ≡ check_from s count count start → NotFound cause place ≡ find_in s name
+      pub find_faulty : (cause : Cause) (place : ℕ) → refused_at cause place ≡ check_from s count count start → refused_at cause place ≡ find_in s name
       unfolding find_in
       find_faulty cause place r = rw (← q, le-ltb _ _ l, ← r)
 
-      pub find_sought : (n : ℕ) → Count n ≡ check_from s count count start → seek_from s name count start ≡ find_in s name
+      pub find_sought : (n : ℕ) → Ok n ≡ check_from s count count start → seek_from s name count start ≡ find_in s name
       unfolding find_in
       find_sought n r = rw (← q, le-ltb _ _ l, ← r)
 
 -- ---- the ways through `body`
-module _ (found : Found) where
-  module _ (begin end : ℕ) (q : Body begin end ≡ found) where
+module _ (found : Lookup) where
+  module _ (begin end : ℕ) (q : span_from begin end ≡ found) where
     pub body_found : (s : List ℕ) → part s begin end ≡ body_of s found
     unfolding body_of
     body_found s = rw (← q)
@@ -186,7 +177,7 @@ module _ (found : Found) where
     unfolding start_of
     start_found = rw (← q)
 
-  module _ (cause : Cause) (place : ℕ) (q : NotFound cause place ≡ found) where
+  module _ (cause : Cause) (place : ℕ) (q : refused_at cause place ≡ found) where
     pub body_none : (s : List ℕ) → [] ≡ body_of s found
     unfolding body_of
     body_none s = rw (← q)
@@ -196,52 +187,52 @@ module _ (found : Found) where
     start_none = rw (← q)
 
 -- ---- what is named lies inside the sheet, and a name has 1 to 16 bytes
-abbrev TextInside : List ℕ → Text → Type 0
-TextInside s (Part begin end) = (begin ≤ end) × (end ≤ length s)
-TextInside s (NoText cause place) = Unit {0}
+abbrev TextInside : List ℕ → TextAt → Type 0
+TextInside s (Ok span) = (span.begin ≤ span.end) × (span.end ≤ length s)
+TextInside s (Err why) = Unit {0}
 
-abbrev NameInside : List ℕ → Text → Type 0
-NameInside s (Part begin end) = (begin < end) × (end ≤ begin + longest_name) × (end ≤ length s)
-NameInside s (NoText cause place) = Unit {0}
+abbrev NameInside : List ℕ → TextAt → Type 0
+NameInside s (Ok span) = (span.begin < span.end) × (span.end ≤ span.begin + longest_name) × (span.end ≤ length s)
+NameInside s (Err why) = Unit {0}
 
-abbrev EntryInside : List ℕ → Entry → Type 0
-EntryInside s (Named begin end body body_end) = (begin < end) × (end ≤ begin + longest_name) × (end ≤ length s) × (body ≤ body_end) × (body_end ≤ length s)
-EntryInside s (Bad cause place) = Unit {0}
+abbrev EntryInside : List ℕ → EntryAt → Type 0
+EntryInside s (Ok entry) = (entry.name.begin < entry.name.end) × (entry.name.end ≤ entry.name.begin + longest_name) × (entry.name.end ≤ length s) × (entry.body.begin ≤ entry.body.end) × (entry.body.end ≤ length s)
+EntryInside s (Err why) = Unit {0}
 
 module _ (s : List ℕ) where
   text_inside : (at : ℕ) → TextInside s (text_at s at)
   unfolding text_at
   text_inside at = go (number_at s at)
     where
-      go : (m : Number) → TextInside s (text_of s at m)
-      go (Value n begin) = by (TextInside s) (leb (begin + n) (length s)) (λ t. (omega arith, leb-true _ _ t)) (λ _. tt)
-      go (Fault cause place) = tt
+      go : (m : NumberRead) → TextInside s (text_of s at m)
+      go (Ok num) = by (TextInside s) (leb (num.next + num.value) (length s)) (λ t. (omega arith, leb-true _ _ t)) (λ _. tt)
+      go (Err why) = tt
 
   name_inside : (at : ℕ) → NameInside s (name_at s at)
   unfolding name_at
   name_inside at = go (number_at s at) refl
     where
-      go : (m : Number) → m ≡ number_at s at → NameInside s (name_of s at m)
-      go (Value n begin) q =
-          by (NameInside s) (eqb n 0) (λ _. tt) (λ z.
-          by (NameInside s) (ltb longest_name n) (λ _. tt) (λ l.
-          rw (text_of_lem s at n begin q)
-          (by (NameInside s) (leb (begin + n) (length s))
-          (λ t. let d = eqb-false n 0 z in let k = ltb-false longest_name n l in (omega arith, omega arith, leb-true _ _ t))
+      go : (m : NumberRead) → m ≡ number_at s at → NameInside s (name_of s at m)
+      go (Ok num) q =
+          by (NameInside s) (eqb num.value 0) (λ _. tt) (λ z.
+          by (NameInside s) (ltb longest_name num.value) (λ _. tt) (λ l.
+          rw (text_of_lem s at num.value num.next q)
+          (by (NameInside s) (leb (num.next + num.value) (length s))
+          (λ t. let d = eqb-false num.value 0 z in let k = ltb-false longest_name num.value l in (omega arith, omega arith, leb-true _ _ t))
           (λ _. tt))))
-      go (Fault cause place) q = tt
+      go (Err why) q = tt
 
   entry_inside : (at : ℕ) → EntryInside s (entry_at s at)
   unfolding entry_at
   entry_inside at = named (name_at s at) (name_inside at)
     where
-      bodied : (begin end : ℕ) → NameInside s (Part begin end) → (t : Text) → TextInside s t → EntryInside s (body_after begin end t)
-      bodied begin end h (Part body body_end) k = (h.0, h.1, h.2, k.0, k.1)
-      bodied begin end h (NoText cause place) k = tt
+      bodied : (begin end : ℕ) → NameInside s (span_from begin end) → (t : TextAt) → TextInside s t → EntryInside s (body_after begin end t)
+      bodied begin end h (Ok span) k = (h.0, h.1, h.2, k.0, k.1)
+      bodied begin end h (Err why) k = tt
 
-      named : (t : Text) → NameInside s t → EntryInside s (entry_of s t)
-      named (Part begin end) h = bodied begin end h (text_at s end) (text_inside end)
-      named (NoText cause place) h = tt
+      named : (t : TextAt) → NameInside s t → EntryInside s (entry_of s t)
+      named (Ok span) h = bodied span.begin span.end h (text_at s span.end) (text_inside span.end)
+      named (Err why) h = tt
 
-  pub inside : (at begin end body body_end : ℕ) → Named begin end body body_end ≡ entry_at s at → EntryInside s (Named begin end body body_end)
+  pub inside : (at begin end body body_end : ℕ) → entry_from begin end body body_end ≡ entry_at s at → EntryInside s (entry_from begin end body body_end)
   inside at begin end body body_end q = rw (← q) at (entry_inside at)

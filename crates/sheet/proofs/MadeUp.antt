@@ -12,16 +12,12 @@ use lib.ListN.{length, drop, get_or}
 use lib.Seq.{drop-append_seam}
 use lib.Dec.{ltb}
 use borrow.Author.Tests.{ltb-false}
+use Rattle.coding.specs.Refusal.{NumberRead, Answer, value_then, refused_at}
+use Rattle.std.specs.Prelude.{Ok, Err}
 use Rattle.coding.specs.Number.{pick, number_at, bytes_of}
 use Rattle.coding.specs.declared.Cause.TheVariants.{NotAllowed, NameAbsent}
-use Rattle.coding.specs.declared.Number.{Number}
-use Rattle.coding.specs.declared.Number.TheVariants.{Value, Fault}
-use Rattle.coding.specs.declared.Answer.{Answer}
-use Rattle.coding.specs.declared.Answer.TheVariants.{Count, Refused}
-use Rattle.sheet.specs.Sheet.{most_entries, eqbs, check_from, seek_from, sought, find_after, find_in}
+use Rattle.sheet.specs.Sheet.{most_entries, eqbs, check_from, seek_from, sought, find_after, find_in, Lookup}
 use Rattle.sheet.specs.MadeUp.{NamedBody, entries_bytes, sheet_bytes, SheetAllowed, IsSheet, first_named, NoneNamed, found_in, Finds, Answered}
-use Rattle.sheet.specs.declared.Found.{Found}
-use Rattle.sheet.specs.declared.Found.TheVariants.{Refused as NotFound}
 use Rattle.sheet.proofs.Laws.{by, eqbs_eq, eqbs_other}
 use Rattle.sheet.proofs.Names.{Accepted, accepted_sought, Counts, check_counts}
 use Rattle.sheet.proofs.Standing.{number_there, check_there, seek_there, place_there, NumberIs, number_is, Listed, listed}
@@ -68,11 +64,11 @@ module _ (es : List NamedBody) (a : SheetAllowed es) where
       (seek_there (sheet_bytes es) name es (length (bytes_of (length es))) a.entries entries_from)
 
   -- The name is absent exactly if no entry has it.
-  pub absent_made_up : (name : List ℕ) → (find_in (sheet_bytes es) name ≡ NotFound NameAbsent 0) ↔ NoneNamed name es
+  pub absent_made_up : (name : List ℕ) → (find_in (sheet_bytes es) name ≡ refused_at NameAbsent 0) ↔ NoneNamed name es
   absent_made_up name =
       simp (← none_named name es) (go (find_in (sheet_bytes es) name) (first_named name es) (finds_made_up name))
     where
-      go : (f : Found) (o : Option (List ℕ)) → Finds (sheet_bytes es) f o → (f ≡ NotFound NameAbsent 0) ↔ (o ≡ none)
+      go : (f : Lookup) (o : Option (List ℕ)) → Finds (sheet_bytes es) f o → (f ≡ refused_at NameAbsent 0) ↔ (o ≡ none)
       go f (some body) (begin, end, q, b) = (λ e. cc, λ e. cc)
       go f none h = (λ e. refl, λ e. h)
 
@@ -82,7 +78,7 @@ module _ (s : List ℕ) (small : (i : ℕ) → get_or s i 0 < 256) where
   unfolding sheet_bytes
   accepted_made_up count start a =
       let l : Listed s count start = rw a.whole at (listed s small count count start) in
-      let n : NumberIs s small 0 (Value count start) = rw a.counted at (number_is s small 0) in
+      let n : NumberIs s small 0 (value_then count start) = rw a.counted at (number_is s small 0) in
       (l.entries, record { few = rw l.as_many a.few; entries = l.allowed }, rw (l.as_many, ← l.is) n.1)
 
 -- A lookup that is answered, whatever the name, says that the sheet is accepted.
@@ -91,15 +87,15 @@ pub answered_accepted : (s name : List ℕ) → Answered (find_in s name) →
 unfolding find_in
 answered_accepted s name h = go (number_at s 0) refl (number_fault s 0) h
   where
-    checked : (count start : ℕ) → number_at s 0 ≡ Value count start → count ≤ most_entries →
+    checked : (count start : ℕ) → number_at s 0 ≡ value_then count start → count ≤ most_entries →
         (a : Answer) → check_from s count count start ≡ a → Counts s name count a → CheckFault s a →
         Answered (sought a (seek_from s name count start)) →
         (n : ℕ) × (b : ℕ) × Accepted s n b
-    checked count start q l (Count n) c m f h = (count, start, record { counted = q; few = l; whole = rw m at c })
-    checked count start q l (Refused cause place) c m f h = absurd (f h)
+    checked count start q l (Ok n) c m f h = (count, start, record { counted = q; few = l; whole = rw m at c })
+    checked count start q l (Err why) c m f h = absurd (f h)
 
-    few : (count start : ℕ) → number_at s 0 ≡ Value count start → (many : Bool) → ltb most_entries count ≡ many →
-        Answered (pick many (NotFound NotAllowed 0)
+    few : (count start : ℕ) → number_at s 0 ≡ value_then count start → (many : Bool) → ltb most_entries count ≡ many →
+        Answered (pick many (refused_at NotAllowed 0)
         (sought (check_from s count count start) (seek_from s name count start))) →
         (n : ℕ) × (b : ℕ) × Accepted s n b
     few count start q true l h = absurd (not_allowed h)
@@ -107,12 +103,12 @@ answered_accepted s name h = go (number_at s 0) refl (number_fault s 0) h
         checked count start q (ltb-false most_entries count l) (check_from s count count start) refl
         (check_counts s name count count start) (check_fault s count count start) h
 
-    go : (m : Number) → number_at s 0 ≡ m → NumberFault s m → Answered (find_after s name m) →
+    go : (m : NumberRead) → number_at s 0 ≡ m → NumberFault s m → Answered (find_after s name m) →
         (n : ℕ) × (b : ℕ) × Accepted s n b
-    go (Value count start) q f h = few count start q (ltb most_entries count) refl h
-    go (Fault cause place) q f h = absurd (f h)
+    go (Ok num) q f h = few num.value num.next q (ltb most_entries num.value) refl h
+    go (Err why) q f h = absurd (f h)
 
-found_answered : (s : List ℕ) (found : Found) (o : Option (List ℕ)) → Finds s found o → Answered found
+found_answered : (s : List ℕ) (found : Lookup) (o : Option (List ℕ)) → Finds s found o → Answered found
 found_answered s found (some body) (begin, end, q, b) = rw q tt
 found_answered s found none h = rw h refl
 

@@ -7,14 +7,14 @@ use contract.Lifetimes.{Lfts}
 use borrow.Fn.Kinds.{Dens, ended_of}
 use denote.Ref.{Bor}
 use denote.Triple.Clauses.{AtExit}
-use Rattle.sheet.specs.declared.Found.{Found}
+use Rattle.sheet.specs.Sheet.{Lookup}
 use Rattle.sheet.proofs.find.Kinds as find
 use Rattle.sheet.proofs.find.Reads as find_reads
 use Rattle.sheet.proofs.body.Kinds as body
 use Rattle.sheet.proofs.body.Reads as body_reads
 
 module _ (κs : Lfts 2) where
-  pub one_found : (r t : Found) (a : Dens κs find.ps) (e f : AtExit (ended_of 2 find.ps find.r) κs) → find_reads.Post κs a r e → find_reads.Post κs a t f → r ≡ t
+  pub one_found : (r t : Lookup) (a : Dens κs find.ps) (e f : AtExit (ended_of 2 find.ps find.r) κs) → find_reads.Post κs a r e → find_reads.Post κs a t f → r ≡ t
   one_found r t a e f p q = p ∙ sym q
 
   -- the bytes, and where in memory they stand

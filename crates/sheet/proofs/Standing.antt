@@ -11,20 +11,13 @@ use lib.ListN.{length, take, drop, get_or, length-append, length-take, length-dr
 use lib.Seq.{drop-drop, get_or-drop, take-append_seam, drop-append_seam}
 use lib.Dec.{ltb, leb, eqb}
 use borrow.Author.Tests.{le-ltb, ltb-false, leb-true}
+use Rattle.coding.specs.Refusal.{NumberRead, Answer, value_then}
+use Rattle.std.specs.Prelude.{Ok, Err}
 use Rattle.coding.specs.Number.{Begin, number, none as no_number, first, placed, pick, number_at, bytes_of}
 use Rattle.coding.proofs.Bytes.{one≤}
 use Rattle.coding.proofs.Trip.{Begins, read_written, written_read}
-use Rattle.coding.specs.declared.Number.{Number}
-use Rattle.coding.specs.declared.Number.TheVariants.{Value, Fault}
-use Rattle.coding.specs.declared.Answer.{Answer}
-use Rattle.coding.specs.declared.Answer.TheVariants.{Count, Refused}
-use Rattle.sheet.specs.Sheet.{longest_name, eqbs, part, text_of, text_at, name_of, name_at, body_after, entry_of, entry_at, check_entry, check_from, seek_from, body_of}
+use Rattle.sheet.specs.Sheet.{longest_name, eqbs, part, text_of, text_at, name_of, name_at, body_after, entry_of, entry_at, check_entry, check_from, seek_from, body_of, TextAt, EntryAt, span_from, entry_from}
 use Rattle.sheet.specs.MadeUp.{NamedBody, entry_bytes, body_start, entries_bytes, EntryAllowed, EntriesAllowed, first_named, found_from, Finds}
-use Rattle.sheet.specs.declared.Text.{Text}
-use Rattle.sheet.specs.declared.Text.TheVariants.{Part, Fault as NoText}
-use Rattle.sheet.specs.declared.Entry.{Entry}
-use Rattle.sheet.specs.declared.Entry.TheVariants.{Named, Bad}
-use Rattle.sheet.specs.declared.Found.TheVariants.{Body}
 use Rattle.sheet.proofs.Laws.{by, inside, text_whole, name_fits, entry_whole}
 
 -- ---- from the entries to the sheet
@@ -35,7 +28,7 @@ record EntryThere (s : List ℕ) (at : ℕ) (e : NamedBody) (rest : List ℕ) : 
   pub end : ℕ
   pub body : ℕ
   pub next : ℕ
-  pub is : entry_at s at ≡ Named begin end body next
+  pub is : entry_at s at ≡ entry_from begin end body next
   pub body_place : body ≡ at + body_start e
   pub next_place : next ≡ at + length (entry_bytes e)
   pub named : part s begin end ≡ e.name
@@ -51,7 +44,7 @@ module _ (s : List ℕ) where
   past_part at p rest e = sym (drop-drop (length p) at s) ∙ ap (drop (length p)) e ∙ drop-append_seam p rest
 
   pub number_there : (at v : ℕ) (rest : List ℕ) → v < 65536 → drop at s ≡ bytes_of v ++ rest →
-      number_at s at ≡ Value v (at + length (bytes_of v))
+      number_at s at ≡ value_then v (at + length (bytes_of v))
   unfolding number_at
   number_there at v rest small e = rw (e, read_written v rest small)
 
@@ -61,16 +54,16 @@ module _ (s : List ℕ) where
 
   module _ (at : ℕ) (t rest : List ℕ) (small : length t < 65536)
       (e : drop at s ≡ bytes_of (length t) ++ (t ++ rest)) where
-    told_there : number_at s at ≡ Value (length t) (begin_of at t)
+    told_there : number_at s at ≡ value_then (length t) (begin_of at t)
     told_there = number_there at (length t) (t ++ rest) small e
 
-    text_there : text_at s at ≡ Part (begin_of at t) (begin_of at t + length t)
+    text_there : text_at s at ≡ span_from (begin_of at t) (begin_of at t + length t)
     text_there =
         let size : length s - at ≡ length (bytes_of (length t)) + (length t + length rest) =
         simp (length-drop, length-append) at (ap length e) in
         sym (text_whole s at (length t) (begin_of at t) (sym told_there) (omega (arith, one≤ (length t))))
 
-    name_there : 1 ≤ length t → length t ≤ longest_name → name_at s at ≡ Part (begin_of at t) (begin_of at t + length t)
+    name_there : 1 ≤ length t → length t ≤ longest_name → name_at s at ≡ span_from (begin_of at t) (begin_of at t + length t)
     name_there held short =
         sym (name_fits s at (length t) (begin_of at t) (sym told_there) (omega arith) short) ∙ text_there
 
@@ -107,7 +100,7 @@ module _ (s : List ℕ) where
 
   -- ---- the check and the search, entry by entry
   pub check_there : (count : ℕ) (es : List NamedBody) (at : ℕ) → EntriesAllowed es → drop at s ≡ entries_bytes es →
-      check_from s count (length es) at ≡ Count count
+      check_from s count (length es) at ≡ Ok count
   unfolding check_from entries_bytes EntriesAllowed
   check_there count [] at a h =
       let none_left : length s - at ≡ 0 = simp length-drop at (ap length h) in
@@ -126,7 +119,7 @@ module _ (s : List ℕ) where
     where
       go : (same : Bool) (t : EntryThere s at e (entries_bytes es)) →
           Finds s (seek_from s name (length es) t.next) (first_named name es) →
-          Finds s (pick same (Body t.body t.next) (seek_from s name (length es) t.next))
+          Finds s (pick same (span_from t.body t.next) (seek_from s name (length es) t.next))
           (pick same (some e.body) (first_named name es))
       go true t f = (t.body, t.next, refl, t.holds)
       go false t f = f
@@ -148,9 +141,9 @@ pub record Listed (s : List ℕ) (left at : ℕ) : Type 0 where
   pub is : drop at s ≡ entries_bytes entries
 
 module _ (s : List ℕ) (small : (i : ℕ) → get_or s i 0 < 256) where
-  abbrev pub NumberIs : ℕ → Number → Type 0
-  NumberIs at (Value v next) = (v < 65536) × (drop at s ≡ bytes_of v ++ drop next s)
-  NumberIs at (Fault cause place) = Unit {0}
+  abbrev pub NumberIs : ℕ → NumberRead → Type 0
+  NumberIs at (Ok num) = (num.value < 65536) × (drop at s ≡ bytes_of num.value ++ drop num.next s)
+  NumberIs at (Err why) = Unit {0}
 
   pub number_is : (at : ℕ) → NumberIs at (number_at s at)
   unfolding number_at
@@ -161,13 +154,13 @@ module _ (s : List ℕ) (small : (i : ℕ) → get_or s i 0 < 256) where
       go (no_number cause) b = tt
 
   -- a text is told by its length, and stands behind it
-  abbrev TextIs : ℕ → Text → Type 0
-  TextIs at (Part begin end) =
-      (length (part s begin end) < 65536)
-      × (drop at s ≡ bytes_of (length (part s begin end)) ++ (part s begin end ++ drop end s))
-  TextIs at (NoText cause place) = Unit {0}
+  abbrev TextIs : ℕ → TextAt → Type 0
+  TextIs at (Ok span) =
+      (length (part s span.begin span.end) < 65536)
+      × (drop at s ≡ bytes_of (length (part s span.begin span.end)) ++ (part s span.begin span.end ++ drop span.end s))
+  TextIs at (Err why) = Unit {0}
 
-  text_part : (at n begin : ℕ) → begin + n ≤ length s → NumberIs at (Value n begin) → TextIs at (Part begin (begin + n))
+  text_part : (at n begin : ℕ) → begin + n ≤ length s → NumberIs at (value_then n begin) → TextIs at (span_from begin (begin + n))
   text_part at n begin l h =
       let z : begin + n - begin ≡ n = omega arith in
       let size : length (take n (drop begin s)) ≡ n = simp (length-take, length-drop) (omega arith) in
@@ -177,41 +170,41 @@ module _ (s : List ℕ) (small : (i : ℕ) → get_or s i 0 < 256) where
   unfolding text_at
   text_is_told at = go (number_at s at) (number_is at)
     where
-      go : (m : Number) → NumberIs at m → TextIs at (text_of s at m)
-      go (Value n begin) h =
-          by (TextIs at) (leb (begin + n) (length s)) (λ t. text_part at n begin (leb-true _ _ t) h) (λ t. tt)
-      go (Fault cause place) h = tt
+      go : (m : NumberRead) → NumberIs at m → TextIs at (text_of s at m)
+      go (Ok num) h =
+          by (TextIs at) (leb (num.next + num.value) (length s)) (λ t. text_part at num.value num.next (leb-true _ _ t) h) (λ t. tt)
+      go (Err why) h = tt
 
   name_is_told : (at : ℕ) → TextIs at (name_at s at)
   unfolding name_at
   name_is_told at = go (number_at s at)
     where
-      go : (m : Number) → TextIs at (name_of s at m)
-      go (Value n begin) =
-          by (TextIs at) (eqb n 0) (λ t. tt) (λ t. by (TextIs at) (ltb longest_name n) (λ u. tt) (λ u. text_is_told at))
-      go (Fault cause place) = tt
+      go : (m : NumberRead) → TextIs at (name_of s at m)
+      go (Ok num) =
+          by (TextIs at) (eqb num.value 0) (λ t. tt) (λ t. by (TextIs at) (ltb longest_name num.value) (λ u. tt) (λ u. text_is_told at))
+      go (Err why) = tt
 
   -- an entry is its bytes
-  abbrev EntryIs : ℕ → Entry → Type 0
-  EntryIs at (Named begin end body next) =
-      (length (part s body next) < 65536)
-      × (drop at s ≡ entry_bytes (record { name = part s begin end; body = part s body next }) ++ drop next s)
-  EntryIs at (Bad cause place) = Unit {0}
+  abbrev EntryIs : ℕ → EntryAt → Type 0
+  EntryIs at (Ok entry) =
+      (length (part s entry.body.begin entry.body.end) < 65536)
+      × (drop at s ≡ entry_bytes (record { name = part s entry.name.begin entry.name.end; body = part s entry.body.begin entry.body.end }) ++ drop entry.body.end s)
+  EntryIs at (Err why) = Unit {0}
 
   entry_is_told : (at : ℕ) → EntryIs at (entry_at s at)
   unfolding entry_at entry_bytes
   entry_is_told at = named (name_at s at) (name_is_told at)
     where
-      bodied : (begin end : ℕ) → TextIs at (Part begin end) → (t : Text) → TextIs end t →
+      bodied : (begin end : ℕ) → TextIs at (span_from begin end) → (t : TextAt) → TextIs end t →
           EntryIs at (body_after begin end t)
-      bodied begin end h (Part body next) k = (k.0, simp append_assoc (rw k.1 at h.1))
-      bodied begin end h (NoText cause place) k = tt
+      bodied begin end h (Ok span) k = (k.0, simp append_assoc (rw k.1 at h.1))
+      bodied begin end h (Err why) k = tt
 
-      named : (t : Text) → TextIs at t → EntryIs at (entry_of s t)
-      named (Part begin end) h = bodied begin end h (text_at s end) (text_is_told end)
-      named (NoText cause place) h = tt
+      named : (t : TextAt) → TextIs at t → EntryIs at (entry_of s t)
+      named (Ok span) h = bodied span.begin span.end h (text_at s span.end) (text_is_told span.end)
+      named (Err why) h = tt
 
-  allowed_there : (at begin end body next : ℕ) → entry_at s at ≡ Named begin end body next →
+  allowed_there : (at begin end body next : ℕ) → entry_at s at ≡ entry_from begin end body next →
       length (part s body next) < 65536 →
       EntryAllowed (record { name = part s begin end; body = part s body next })
   allowed_there at begin end body next q l =
@@ -220,8 +213,8 @@ module _ (s : List ℕ) (small : (i : ℕ) → get_or s i 0 < 256) where
       record { some_name = omega arith; short_name = omega arith; body_told = omega arith }
 
   abbrev pub ListedBy : ℕ → ℕ → Answer → Type 0
-  ListedBy left at (Count n) = Listed s left at
-  ListedBy left at (Refused cause place) = Unit {0}
+  ListedBy left at (Ok n) = Listed s left at
+  ListedBy left at (Err why) = Unit {0}
 
   pub listed : (count left at : ℕ) → ListedBy left at (check_from s count left at)
   unfolding check_from entries_bytes EntriesAllowed
@@ -230,21 +223,21 @@ module _ (s : List ℕ) (small : (i : ℕ) → get_or s i 0 < 256) where
       (λ t. record { entries = []; as_many = refl; allowed = tt; is = drop_of_length-le s (ltb-false at (length s) t) })
   listed count (suc left) at = go (entry_at s at) refl (entry_is_told at) (λ next. listed count left next)
     where
-      one_more : (begin end body next : ℕ) → entry_at s at ≡ Named begin end body next →
-          EntryIs at (Named begin end body next) →
+      one_more : (begin end body next : ℕ) → entry_at s at ≡ entry_from begin end body next →
+          EntryIs at (entry_from begin end body next) →
           (a : Answer) → ListedBy left next a → ListedBy (suc left) at a
-      one_more begin end body next q h (Count n) l =
+      one_more begin end body next q h (Ok n) l =
           record {
             entries = record { name = part s begin end; body = part s body next } ∷ l.entries;
             as_many = ap suc l.as_many;
             allowed = (allowed_there at begin end body next q h.0, l.allowed);
             is = rw l.is at h.1;
           }
-      one_more begin end body next q h (Refused cause place) l = tt
+      one_more begin end body next q h (Err why) l = tt
 
-      go : (n : Entry) → entry_at s at ≡ n → EntryIs at n →
+      go : (n : EntryAt) → entry_at s at ≡ n → EntryIs at n →
           ((next : ℕ) → ListedBy left next (check_from s count left next)) →
           ListedBy (suc left) at (check_entry (λ next. check_from s count left next) n)
-      go (Named begin end body next) q h rest =
-          one_more begin end body next q h (check_from s count left next) (rest next)
-      go (Bad cause place) q h rest = tt
+      go (Ok entry) q h rest =
+          one_more entry.name.begin entry.name.end entry.body.begin entry.body.end q h (check_from s count left entry.body.end) (rest entry.body.end)
+      go (Err why) q h rest = tt

@@ -2,13 +2,12 @@
 -- Document 01, Coding: "Sheet: count (0 to 32), then name length (1 to 16), name, body length, body."
 -- The theorems of proofs/MadeUp.antt are stated with these; no promise of a function cites them.
 -- Assumes nothing: these are definitions.
-use Rattle.std.specs.Prelude.{ℕ, ◌+◌, ◌≤◌, ◌≡◌, List, [], ◌∷◌, ◌++◌, length}
+use Rattle.coding.specs.Refusal.{refused_at}
+use Rattle.std.specs.Prelude.{ℕ, ◌+◌, ◌≤◌, ◌≡◌, List, [], ◌∷◌, ◌++◌, length, Ok, Err}
 use Rattle.std.proofs.Math.Option.{Option, some, none}
 use Rattle.coding.specs.Number.{pick, bytes_of}
 use Rattle.coding.specs.declared.Cause.TheVariants.{NameAbsent}
-use Rattle.sheet.specs.Sheet.{most_entries, longest_name, eqbs, body_of}
-use Rattle.sheet.specs.declared.Found.{Found}
-use Rattle.sheet.specs.declared.Found.TheVariants.{Body, Refused as NotFound}
+use Rattle.sheet.specs.Sheet.{most_entries, longest_name, eqbs, body_of, Lookup, span_from}
 
 -- An entry: a name and its body, any bytes.
 pub record NamedBody : Type 0 where
@@ -62,22 +61,22 @@ NoneNamed name [] = Unit
 NoneNamed name (e ∷ es) = ¬ (e.name ≡ name) × NoneNamed name es
 
 -- Where the body of the first entry so named begins and ends, if the first of these entries begins at a place.
-unfoldable pub found_from : ℕ → List ℕ → List NamedBody → Found
-found_from at name [] = NotFound NameAbsent 0
+unfoldable pub found_from : ℕ → List ℕ → List NamedBody → Lookup
+found_from at name [] = refused_at NameAbsent 0
 found_from at name (e ∷ es) =
-    pick (eqbs e.name name) (Body (at + body_start e) (at + length (entry_bytes e)))
+    pick (eqbs e.name name) (span_from (at + body_start e) (at + length (entry_bytes e)))
     (found_from (at + length (entry_bytes e)) name es)
 
-unfoldable pub found_in : List ℕ → List NamedBody → Found
+unfoldable pub found_in : List ℕ → List NamedBody → Lookup
 found_in name es = found_from (length (bytes_of (length es))) name es
 
 -- What is found in a sheet where this body, or none, should be: a part of the sheet that is the body byte for byte;
 -- or refusal 11, "name absent", at 0.
-abbrev pub Finds : List ℕ → Found → Option (List ℕ) → Type 0
-Finds s found (some body) = (begin : ℕ) × (end : ℕ) × (found ≡ Body begin end) × (body_of s found ≡ body)
-Finds s found none = found ≡ NotFound NameAbsent 0
+abbrev pub Finds : List ℕ → Lookup → Option (List ℕ) → Type 0
+Finds s found (some body) = (begin : ℕ) × (end : ℕ) × (found ≡ span_from begin end) × (body_of s found ≡ body)
+Finds s found none = found ≡ refused_at NameAbsent 0
 
 -- A lookup that is answered: a body is found, or there is no fault but that the name is absent.
-abbrev pub Answered : Found → Type 0
-Answered (Body begin end) = Unit
-Answered (NotFound cause place) = cause ≡ NameAbsent
+abbrev pub Answered : Lookup → Type 0
+Answered (Ok span) = Unit
+Answered (Err why) = why.cause ≡ NameAbsent

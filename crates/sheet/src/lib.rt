@@ -4,79 +4,61 @@
 ghost use Rattle.std.specs.Prelude.{◌≡◌, ◌+◌, ◌≤◌, length};
 ghost use Rattle.sheet.specs.Sheet.{text_at, name_at, entry_at, check_from, seek_from, find_in, body_of, start_of, eqbs, part};
 
-use coding::{Answer, Cause, Number};
+use coding::{Answer, Cause, Refusal};
 
 const MOST_ENTRIES: u16 = 32;
 
 const LONGEST_NAME: u16 = 16;
 
-// A text of the sheet: where it begins and ends, or why there is none and where.
-#[derive(Clone, Copy)]
-enum Text {
-    Part(usize, usize),
-    Fault(Cause, usize),
+// Where a text of the sheet begins and ends.
+#[derive(Clone, Copy, Debug, PartialEq, Eq)]
+pub struct Span {
+    pub begin: usize,
+    pub end: usize,
 }
 
-// An entry of the sheet: where its name begins and ends, where its body begins and ends, or a refusal.
+// An entry of the sheet: its name and its body.
 #[derive(Clone, Copy)]
-enum Entry {
-    Named(usize, usize, usize, usize),
-    Bad(Cause, usize),
-}
-
-// What a lookup finds: where the body begins and ends, or a refusal.
-#[derive(Clone, Copy)]
-pub enum Found {
-    Body(usize, usize),
-    Refused(Cause, usize),
+struct Entry {
+    name: Span,
+    body: Span,
 }
 
 // The text whose length stands at `at`.
-fn text_at(sheet: &[u8], at: usize) -> Text
+fn text_at(sheet: &[u8], at: usize) -> Result<Span, Refusal>
     ensures { result ≡ text_at sheet.now at }
 {
-    match coding::read_number(sheet, at) {
-        Number::Fault(cause, place) => Text::Fault(cause, place),
-        Number::Value(n, begin) => {
-            let size = n as usize;
-            let left = sheet.len() - begin;
-            if left < size {
-                return Text::Fault(Cause::CutShort, at);
-            }
-            Text::Part(begin, begin + size)
-        }
+    let length = coding::read_number(sheet, at)?;
+    let begin = length.next;
+    let size = length.value as usize;
+    let left = sheet.len() - begin;
+    if left < size {
+        return Err(Cause::CutShort.at(at));
     }
+    Ok(Span {
+        begin,
+        end: begin + size,
+    })
 }
 
 // The name whose length stands at `at`: the length is looked at before the text.
-fn name_at(sheet: &[u8], at: usize) -> Text
+fn name_at(sheet: &[u8], at: usize) -> Result<Span, Refusal>
     ensures { result ≡ name_at sheet.now at }
 {
-    match coding::read_number(sheet, at) {
-        Number::Fault(cause, place) => Text::Fault(cause, place),
-        Number::Value(n, _) => {
-            if n == 0 {
-                return Text::Fault(Cause::NotAllowed, at);
-            }
-            if LONGEST_NAME < n {
-                return Text::Fault(Cause::NotAllowed, at);
-            }
-            text_at(sheet, at)
-        }
+    let length = coding::read_number(sheet, at)?;
+    if length.value == 0 || LONGEST_NAME < length.value {
+        return Err(Cause::NotAllowed.at(at));
     }
+    text_at(sheet, at)
 }
 
 // The entry whose name's length stands at `at`.
-fn entry_at(sheet: &[u8], at: usize) -> Entry
+fn entry_at(sheet: &[u8], at: usize) -> Result<Entry, Refusal>
     ensures { result ≡ entry_at sheet.now at }
 {
-    match name_at(sheet, at) {
-        Text::Fault(cause, place) => Entry::Bad(cause, place),
-        Text::Part(name, name_end) => match text_at(sheet, name_end) {
-            Text::Fault(cause, place) => Entry::Bad(cause, place),
-            Text::Part(body, body_end) => Entry::Named(name, name_end, body, body_end),
-        },
-    }
+    let name = name_at(sheet, at)?;
+    let body = text_at(sheet, name.end)?;
+    Ok(Entry { name, body })
 }
 
 // So many entries from `at` on and nothing after them, or the first fault.
@@ -84,22 +66,14 @@ fn check_entries(sheet: &[u8], count: u16, at: usize) -> Answer
     ensures { result ≡ check_from sheet.now count count at }
 {
     let mut next = at;
-    let mut left = count;
-    while 0 < left {
-        match entry_at(sheet, next) {
-            Entry::Bad(cause, place) => {
-                return Answer::Refused(cause, place);
-            }
-            Entry::Named(_, _, _, end) => {
-                next = end;
-                left -= 1;
-            }
-        }
+    for _ in 0..count {
+        let entry = entry_at(sheet, next)?;
+        next = entry.body.end;
     }
     if next < sheet.len() {
-        return Answer::Refused(Cause::LeftOver, next);
+        return Err(Cause::LeftOver.at(next));
     }
-    Answer::Count(count as usize)
+    Ok(count as usize)
 }
 
 // Whether two texts are the same.
@@ -118,44 +92,30 @@ fn is_named(sheet: &[u8], begin: usize, end: usize, name: &[u8]) -> bool
 }
 
 // The first of so many entries from `at` on that has the name.
-fn seek(sheet: &[u8], name: &[u8], count: u16, at: usize) -> Found
+fn seek(sheet: &[u8], name: &[u8], count: u16, at: usize) -> Result<Span, Refusal>
     ensures { result ≡ seek_from sheet.now name.now count at }
 {
-    let mut next = at;
-    let mut left = count;
-    while 0 < left {
-        match entry_at(sheet, next) {
-            Entry::Bad(cause, place) => {
-                return Found::Refused(cause, place);
-            }
-            Entry::Named(begin, end, body, body_end) => {
-                if is_named(sheet, begin, end, name) {
-                    return Found::Body(body, body_end);
-                }
-                next = body_end;
-                left -= 1;
-            }
+    let mut here = at;
+    for _ in 0..count {
+        let entry = entry_at(sheet, here)?;
+        if is_named(sheet, entry.name.begin, entry.name.end, name) {
+            return Ok(entry.body);
         }
+        here = entry.body.end;
     }
-    Found::Refused(Cause::NameAbsent, 0)
+    Err(Cause::NameAbsent.at(0))
 }
 
 // Where the body of a name stands. Every length of the sheet is checked before the name is sought.
-pub fn find(sheet: &[u8], name: &[u8]) -> Found
+pub fn find(sheet: &[u8], name: &[u8]) -> Result<Span, Refusal>
     ensures { result ≡ find_in sheet.now name.now }
 {
-    match coding::read_number(sheet, 0) {
-        Number::Fault(cause, place) => Found::Refused(cause, place),
-        Number::Value(count, start) => {
-            if MOST_ENTRIES < count {
-                return Found::Refused(Cause::NotAllowed, 0);
-            }
-            match check_entries(sheet, count, start) {
-                Answer::Refused(cause, place) => Found::Refused(cause, place),
-                Answer::Count(_) => seek(sheet, name, count, start),
-            }
-        }
+    let count = coding::read_number(sheet, 0)?;
+    if MOST_ENTRIES < count.value {
+        return Err(Cause::NotAllowed.at(0));
     }
+    check_entries(sheet, count.value, count.next)?;
+    seek(sheet, name, count.value, count.next)
 }
 
 // The body of a name, as the very bytes of the sheet; nothing where the lookup refuses.
@@ -165,7 +125,7 @@ pub fn body<'a, 'b>(sheet: &'a [u8], name: &'b [u8]) -> &'a [u8]
     ensures place { (result.ref_ptr.0 ≡ sheet.entry.ref_ptr.0) × (result.ref_ptr.1 ≡ sheet.entry.ref_ptr.1 + start_of (find_in sheet.now name.now)) }
 {
     match find(sheet, name) {
-        Found::Body(begin, end) => &sheet[begin..end],
-        Found::Refused(_, _) => &sheet[0..0],
+        Ok(span) => &sheet[span.begin..span.end],
+        Err(_) => &sheet[0..0],
     }
 }

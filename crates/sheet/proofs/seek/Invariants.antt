@@ -1,9 +1,7 @@
 use mathlib.Core.Path.{◌≡◌}
+use Prim.Native.Nat.{◌-◌}
 use Rattle.sheet.specs.Sheet.{seek_from}
 use Rattle.sheet.proofs.seek.Given as goal
 
-abbrev pub invariant-loop-left : goal.invariant-loop-left
-invariant-loop-left l = seek_from l.sheet l.name l.left l.next ≡ seek_from l.sheet l.name l.count l.at
-
-abbrev pub decreases-loop-left : goal.decreases-loop-left
-decreases-loop-left l = l.left
+abbrev pub invariant-loop : goal.invariant-loop
+invariant-loop l = seek_from l.sheet l.name (l.count - l.counter) l.here ≡ seek_from l.sheet l.name l.count l.at
