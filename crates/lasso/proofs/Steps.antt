@@ -7,10 +7,11 @@ use mathlib.Core.Bool.{Bool, true, false}
 use mathlib.Core.List.{List}
 use lib.ListN.{length}
 use borrow.Author.Tests.{eq-eqb, ne_eqb, lt-ltb, le-ltb}
+use Rattle.coding.specs.declared.Refusal.{Refusal}
+use Rattle.coding.specs.Refusal.{Answer, refused_at}
+use Rattle.std.specs.Prelude.{Ok, Err}
 use Rattle.coding.specs.Number.{pick}
 use Rattle.coding.specs.declared.Cause.TheVariants.{BadTrace}
-use Rattle.coding.specs.declared.Answer.{Answer}
-use Rattle.coding.specs.declared.Answer.TheVariants.{Count, Refused}
 use Rattle.bits.specs.Rows.{after_of}
 use Rattle.lasso.specs.Bytes.{positions, phase_byte}
 use Rattle.lasso.specs.Checking.{length_ok, steps_from, output_from, check_by}
@@ -27,14 +28,14 @@ module _ (rule : ℕ → ℕ → Bool) (s : List ℕ) (start : ℕ) (fine : Answ
   module _ (h : i < positions s) (x j y : ℕ) (r : Bool)
       (ex : x ≡ phase_byte s i) (ej : j ≡ after_of (positions s) start i) (ey : y ≡ phase_byte s j) (er : r ≡ rule x y) where
     here : steps_from rule s start (positions s - i) i fine
-        ≡ pick r (steps_from rule s start (positions s - (i + 1)) (i + 1) fine) (Refused BadTrace i)
+        ≡ pick r (steps_from rule s start (positions s - (i + 1)) (i + 1) fine) (refused_at BadTrace i)
     unfolding steps_from
     here = rw (left h, er, ey, ej, ex)
 
     pub steps_on : r ≡ true → steps_from rule s start (positions s - (i + 1)) (i + 1) fine ≡ steps_from rule s start (positions s - i) i fine
     steps_on e = rw (here, e)
 
-    pub steps_stop : r ≡ false → Refused BadTrace i ≡ steps_from rule s start (positions s - i) i fine
+    pub steps_stop : r ≡ false → refused_at BadTrace i ≡ steps_from rule s start (positions s - i) i fine
     steps_stop e = rw (here, e)
 
 module _ (s : List ℕ) (i : ℕ) where
@@ -53,25 +54,35 @@ module _ (s : List ℕ) (i : ℕ) where
 
 -- the four answers
 module _ (rule : ℕ → ℕ → Bool) (s : List ℕ) (start : ℕ) where
-  pub wrong_length : length_ok (length s) ≡ false → Refused BadTrace (length s) ≡ check_by rule s start
+  pub wrong_length : length_ok (length s) ≡ false → refused_at BadTrace (length s) ≡ check_by rule s start
   unfolding check_by
   wrong_length e = rw e
 
   module _ (ok : length_ok (length s) ≡ true) where
-    pub wrong_start : positions s ≤ start → Refused BadTrace (positions s) ≡ check_by rule s start
+    pub wrong_start : positions s ≤ start → refused_at BadTrace (positions s) ≡ check_by rule s start
     unfolding check_by
     wrong_start h = rw (ok, le-ltb start (positions s) h)
 
     module _ (h : start < positions s) where
       walked : check_by rule s start
-          ≡ steps_from rule s start (positions s) 0 (pick (output_from s (positions s - start) start) (Count (positions s)) (Refused BadTrace start))
+          ≡ steps_from rule s start (positions s) 0 (pick (output_from s (positions s - start) start) (Ok (positions s)) (refused_at BadTrace start))
       unfolding check_by
       walked = rw (ok, lt-ltb start (positions s) h)
 
+      pub bad_step : (why : Refusal) → ((fine : Answer) → Err why ≡ steps_from rule s start (positions s) 0 fine) → Err why ≡ check_by rule s start
+      bad_step why f = rw walked (f _)
+
+      module _ (good : (fine : Answer) → fine ≡ steps_from rule s start (positions s) 0 fine) where
+        pub no_output : output_from s (positions s - start) start ≡ false → refused_at BadTrace start ≡ check_by rule s start
+        no_output e = rw (walked, e) (good _)
+
+        pub well_formed : output_from s (positions s - start) start ≡ true → Ok (positions s) ≡ check_by rule s start
+        well_formed e = rw (walked, e) (good _)
+
       pub with_output : output_from s (positions s - start) start ≡ true →
-          steps_from rule s start (positions s) 0 (Count (positions s)) ≡ check_by rule s start
+          steps_from rule s start (positions s) 0 (Ok (positions s)) ≡ check_by rule s start
       with_output e = rw (walked, e)
 
       pub without_output : output_from s (positions s - start) start ≡ false →
-          steps_from rule s start (positions s) 0 (Refused BadTrace start) ≡ check_by rule s start
+          steps_from rule s start (positions s) 0 (refused_at BadTrace start) ≡ check_by rule s start
       without_output e = rw (walked, e)

@@ -6,7 +6,7 @@ use mathlib.Core.Bool.{Bool}
 use contract.Lifetimes.{Lfts}
 use borrow.Fn.Kinds.{Dens, ended_of}
 use denote.Triple.Clauses.{AtExit}
-use Rattle.coding.specs.declared.Answer.{Answer}
+use Rattle.coding.specs.Refusal.{Answer}
 use Rattle.coding.proofs.Unique.{one_answer}
 use Rattle.lasso.proofs.phase_number.Kinds as phase_number
 use Rattle.lasso.proofs.phase_number.Reads as phase_number_reads

@@ -11,14 +11,15 @@ use mathlib.Core.List.{List}
 use lib.ListN.{length}
 use lib.Dec.{ltb, eqb}
 use borrow.Author.Tests.{ltb-true, ltb-false, eqb-true, eqb-false, eq-eqb}
+use Rattle.coding.specs.Refusal.{Answer, refused_at}
+use Rattle.std.specs.Prelude.{Ok}
 use Rattle.coding.specs.Number.{pick}
 use Rattle.coding.specs.declared.Cause.{Cause}
 use Rattle.coding.specs.declared.Cause.TheVariants.{BadTrace}
-use Rattle.coding.specs.declared.Answer.{Answer}
-use Rattle.coding.specs.declared.Answer.TheVariants.{Count, Refused}
 use Rattle.requirement.specs.declared.Phase.TheVariants.{Output}
 use Rattle.meaning.specs.Trace.{WellFormed, Follows}
 use Rattle.bits.specs.Rows.{after_of}
+use Rattle.coding.proofs.Refusing.{same_cause, same_place}
 use Rattle.lasso.specs.Bytes.{positions, phase_from, phase_byte, trace_of}
 use Rattle.lasso.specs.Checking.{length_ok, may_follow, steps_from, output_from, check_by, check_trace}
 use Rattle.lasso.proofs.Positions.{after_inside}
@@ -51,7 +52,7 @@ pub record Lasso (s : List ℕ) (start n : ℕ) : Type 0 where
   pub phases : (p : ℕ) → p < n → phase_byte s p ≤ 2
   pub well_formed : WellFormed (trace_of s start)
 
-not_both : {n p : ℕ} {cause : Cause} → Refused cause p ≡ Count n → ⊥
+not_both : {n p : ℕ} {cause : Cause} → refused_at cause p ≡ Ok n → ⊥
 not_both e = let z : ◌≡◌ {A = ℕ} 0 1 = cc in omega arith
 
 -- ---- one step, of bytes and of phases
@@ -103,7 +104,7 @@ module _ (s : List ℕ) (start : ℕ) where
   abbrev Walked : Answer → ℕ → ℕ → Answer → Type 0
   Walked fine i e a =
       ((a ≡ fine) × AllFine i e) ⊎
-      ((p : ℕ) × (a ≡ Refused BadTrace p) × (i ≤ p) × (p < e) × AllFine i p × (Fine s start p → ⊥))
+      ((p : ℕ) × (a ≡ refused_at BadTrace p) × (i ≤ p) × (p < e) × AllFine i p × (Fine s start p → ⊥))
 
   with_here : (i e : ℕ) → Fine s start i → AllFine (i + 1) e → AllFine i e
   with_here i e f all j h k = ⊎_elim (λ (q : i ≡ j). rw (← q) f) (λ (l : i < j). all j (omega arith) k) (eq-or-lt_of_le h)
@@ -113,7 +114,7 @@ module _ (s : List ℕ) (start : ℕ) where
   on fine i e a f (inr (p, q, h, k, all, bad)) = inr (p, q, omega arith, k, with_here i p f all, bad)
 
   turn : (fine : Answer) (i e : ℕ) (a : Answer) (b : Bool) → i < e → allowed i ≡ b →
-      Walked fine (i + 1) e a → Walked fine i e (pick b a (Refused BadTrace i))
+      Walked fine (i + 1) e a → Walked fine i e (pick b a (refused_at BadTrace i))
   turn fine i e a true h q w = on fine i e a (allowed_fine i q) w
   turn fine i e a false h q w = inr (i, refl, le_refl i, h, (λ j l m. absurd (omega arith)), λ f. false≢true (sym q ∙ fine_allowed i f))
 
@@ -128,19 +129,20 @@ module _ (s : List ℕ) (start : ℕ) where
   abbrev Where : ℕ → Cause → Type 0
   Where p cause = (cause ≡ BadTrace) × (FirstFault s start p ⊎ Unwritten s start p)
 
-  refused_by : (fine : Answer) (p : ℕ) (cause : Cause) → (fine ≡ Refused cause p → AllFine 0 (positions s) → Where p cause) →
-      (a : Answer) → Walked fine 0 (positions s) a → a ≡ Refused cause p → Where p cause
+  refused_by : (fine : Answer) (p : ℕ) (cause : Cause) → (fine ≡ refused_at cause p → AllFine 0 (positions s) → Where p cause) →
+      (a : Answer) → Walked fine 0 (positions s) a → a ≡ refused_at cause p → Where p cause
   refused_by fine p cause last a (inl (q, all)) e = last (sym q ∙ e) all
   refused_by fine p cause last a (inr (p', q, h, k, all, bad)) e =
       let f : FirstFault s start p' = record { inside = k; before = λ i l. all i (omega arith) l; here = bad } in
-      let p_is : p' ≡ p = cc in
-      let cause_is : cause ≡ BadTrace = cc in
+      let r = sym q ∙ e in
+      let p_is : p' ≡ p = same_place r in
+      let cause_is : cause ≡ BadTrace = sym (same_cause r) in
       (cause_is, inl (rw p_is at f))
 
   all_fine : AllFine 0 (positions s) → (fine : Answer) → steps_from may_follow s start (positions s) 0 fine ≡ fine
   all_fine all fine = ⊎_elim (λ (q, _). q) (λ (p, q, h, k, _, bad). absurd (bad (all p h k))) (to_the_end fine)
 
-  fine_all : (fine : Answer) (n : ℕ) → steps_from may_follow s start (positions s) 0 fine ≡ Count n → (fine ≡ Count n) × AllFine 0 (positions s)
+  fine_all : (fine : Answer) (n : ℕ) → steps_from may_follow s start (positions s) 0 fine ≡ Ok n → (fine ≡ Ok n) × AllFine 0 (positions s)
   fine_all fine n e = ⊎_elim (λ (q, all). (sym q ∙ e, all)) (λ (p, q, h, k, _, _). absurd (not_both (sym q ∙ e))) (to_the_end fine)
 
 -- ---- an Output from position i on
@@ -194,48 +196,48 @@ module _ (s : List ℕ) (start : ℕ) where
         well_formed = record { inside = inside; steps = λ i h. (all i (omega arith) h).follows; written = (j, l, omega arith, rw q) };
       }
 
-  pub accepted_is_well_formed : (n : ℕ) → check_trace s start ≡ Count n → Lasso s start n
+  pub accepted_is_well_formed : (n : ℕ) → check_trace s start ≡ Ok n → Lasso s start n
   unfolding check_by
   accepted_is_well_formed n = go (length_ok (length s)) refl (ltb start (positions s)) refl (output_from s (positions s - start) start) refl
     where
       go : (a : Bool) → length_ok (length s) ≡ a → (b : Bool) → ltb start (positions s) ≡ b → (c : Bool) → output_from s (positions s - start) start ≡ c →
           pick a
-          (pick b (steps_from may_follow s start (positions s) 0 (pick c (Count (positions s)) (Refused BadTrace start))) (Refused BadTrace (positions s)))
-          (Refused BadTrace (length s))
-          ≡ Count n →
+          (pick b (steps_from may_follow s start (positions s) 0 (pick c (Ok (positions s)) (refused_at BadTrace start))) (refused_at BadTrace (positions s)))
+          (refused_at BadTrace (length s))
+          ≡ Ok n →
           Lasso s start n
       go false ok b i c o e = absurd (not_both e)
       go true ok false i c o e = absurd (not_both e)
-      go true ok true i false o e = absurd (not_both (fine_all s start (Refused BadTrace start) n e).0)
+      go true ok true i false o e = absurd (not_both (fine_all s start (refused_at BadTrace start) n e).0)
       go true ok true i true o e =
-          let (q, all) = fine_all s start (Count (positions s)) n e in
+          let (q, all) = fine_all s start (Ok (positions s)) n e in
           let n_is : positions s ≡ n = cc in
           rw n_is at (lasso ok (ltb-true start (positions s) i) o all)
 
   pub well_formed_is_accepted : length_ok (length s) ≡ true → ((p : ℕ) → p < positions s → phase_byte s p ≤ 2) → WellFormed (trace_of s start) →
-      check_trace s start ≡ Count (positions s)
+      check_trace s start ≡ Ok (positions s)
   well_formed_is_accepted ok phases w =
       let (i, h, k, o) = w.written in
       let out = output_is s (positions s - start) start i h (omega arith) (two (phase_byte s i) (phases i k) o) in
       sym (with_output may_follow s start ok w.inside out)
       ∙ all_fine s start
       (λ j _ m. record { phase = phases j m; next = phases _ (after_inside j w.inside); follows = w.steps j m })
-      (Count (positions s))
+      (Ok (positions s))
 
   -- "bad phase or followed by a phase not allowed (first such position); no Output in the loop (loop start)"
-  pub refused_where : (p : ℕ) (cause : Cause) → length_ok (length s) ≡ true → start < positions s → check_trace s start ≡ Refused cause p →
+  pub refused_where : (p : ℕ) (cause : Cause) → length_ok (length s) ≡ true → start < positions s → check_trace s start ≡ refused_at cause p →
       (cause ≡ BadTrace) × (FirstFault s start p ⊎ Unwritten s start p)
   refused_where p cause ok inside e = go (output_from s (positions s - start) start) refl
     where
       go : (b : Bool) → output_from s (positions s - start) start ≡ b → Where s start p cause
       go true out =
-          refused_by s start (Count (positions s)) p cause (λ q all. absurd (not_both (sym q))) _ (to_the_end s start _)
+          refused_by s start (Ok (positions s)) p cause (λ q all. absurd (not_both (sym q))) _ (to_the_end s start _)
           (with_output may_follow s start ok inside out ∙ e)
       go false out =
-          refused_by s start (Refused BadTrace start) p cause
+          refused_by s start (refused_at BadTrace start) p cause
           (λ q all.
-          let cause_is : cause ≡ BadTrace = cc in
-          let p_is : p ≡ start = cc in (
+          let cause_is : cause ≡ BadTrace = sym (same_cause q) in
+          let p_is : p ≡ start = sym (same_place q) in (
             cause_is,
             inr
                 (record {

@@ -1,11 +1,10 @@
 -- Refusal 9. Document 01, Numbers of refusal: "in this order: trace length 0, over 20,480 or not a multiple of 5 (place: length); loop start not below the
 -- position count (place: that count); bad phase or followed by a phase not allowed (first such position); no Output in the loop (loop start)".
 -- Assumes nothing: these are definitions.
-use Rattle.std.specs.Prelude.{ℕ, zero, suc, ◌+◌, ◌-◌, ◌%◌, Bool, true, false, List, length, ltb, eqb}
+use Rattle.coding.specs.Refusal.{Answer, refused_at}
+use Rattle.std.specs.Prelude.{ℕ, zero, suc, ◌+◌, ◌-◌, ◌%◌, Bool, true, false, List, length, ltb, eqb, Ok}
 use Rattle.coding.specs.Number.{pick}
 use Rattle.coding.specs.declared.Cause.TheVariants.{BadTrace}
-use Rattle.coding.specs.declared.Answer.{Answer}
-use Rattle.coding.specs.declared.Answer.TheVariants.{Count, Refused}
 use Rattle.bits.specs.Rows.{after_of}
 use Rattle.lasso.specs.Bytes.{positions, phase_byte}
 
@@ -27,7 +26,7 @@ may_follow p q =
 unfoldable pub steps_from : (ℕ → ℕ → Bool) → List ℕ → ℕ → ℕ → ℕ → Answer → Answer
 steps_from rule s start zero i fine = fine
 steps_from rule s start (suc k) i fine =
-    pick (rule (phase_byte s i) (phase_byte s (after_of (positions s) start i))) (steps_from rule s start k (i + 1) fine) (Refused BadTrace i)
+    pick (rule (phase_byte s i) (phase_byte s (after_of (positions s) start i))) (steps_from rule s start k (i + 1) fine) (refused_at BadTrace i)
 
 -- Whether one of k positions from i on is an Output.
 unfoldable pub output_from : List ℕ → ℕ → ℕ → Bool
@@ -40,9 +39,9 @@ check_by rule s start =
     pick (length_ok (length s))
     (pick (ltb start (positions s))
     (steps_from rule s start (positions s) 0
-    (pick (output_from s (positions s - start) start) (Count (positions s)) (Refused BadTrace start)))
-    (Refused BadTrace (positions s)))
-    (Refused BadTrace (length s))
+    (pick (output_from s (positions s - start) start) (Ok (positions s)) (refused_at BadTrace start)))
+    (refused_at BadTrace (positions s)))
+    (refused_at BadTrace (length s))
 
 abbrev pub check_trace : List ℕ → ℕ → Answer
 check_trace s start = check_by may_follow s start

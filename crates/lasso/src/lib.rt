@@ -2,12 +2,14 @@
 #![tactic(auto)]
 
 ghost use Rattle.std.specs.Prelude.{◌≡◌, ◌<◌, ◌-◌};
+ghost use Rattle.std.specs.Result.{result_and};
+ghost use Rattle.coding.specs.Refusal.{Answer};
 ghost use Rattle.bits.specs.Rows.{after_of};
 ghost use Rattle.bits.specs.Bits.{bit_b};
 ghost use Rattle.lasso.specs.Bytes.{phase_number, positions, phase_byte, atom_at, inputs_in};
 ghost use Rattle.lasso.specs.Checking.{length_ok, may_follow, steps_from, output_from, check_trace};
 
-use coding::{Answer, Cause};
+use coding::{Answer, Cause, Refusal};
 use requirement::Phase;
 
 // The byte of a phase.
@@ -109,37 +111,29 @@ fn after(n: usize, start: usize, p: usize) -> usize
     start
 }
 
-// The first position that is no phase or is followed by what may not follow it; else `fine`.
-fn check_steps(trace: &[u8], start: usize, fine: Answer) -> Answer
+// Whether every position is a phase and is followed by what may follow it, at the join too; else the first that is not.
+fn check_steps(trace: &[u8], start: usize) -> Result<(), Refusal>
     requires { start < positions trace.now }
-    ensures { result ≡ steps_from may_follow trace.now start (positions trace.now) 0 fine }
+    ensures { (fine : Answer) → result_and result fine ≡ steps_from may_follow trace.now start (positions trace.now) 0 fine }
 {
     let n = trace.len() / 5;
-    let mut i: usize = 0;
-    let mut here = phase_in(trace, 0);
-    while i < n {
-        let next = phase_in(trace, after(n, start, i));
-        if may_follow(here, next) {
-            here = next;
-            i += 1;
-        } else {
-            return Answer::Refused(Cause::BadTrace, i);
+    for p in 0..n {
+        let next = phase_in(trace, after(n, start, p));
+        if !may_follow(phase_in(trace, p), next) {
+            return Err(Cause::BadTrace.at(p));
         }
     }
-    fine
+    Ok(())
 }
 
 // Whether the loop holds an Output.
 fn output_in_loop(trace: &[u8], start: usize) -> bool
     ensures { result ≡ output_from trace.now (positions trace.now - start) start }
 {
-    let n = trace.len() / 5;
-    let mut i = start;
-    while i < n {
-        if phase_in(trace, i) == 2 {
+    for p in start..trace.len() / 5 {
+        if phase_in(trace, p) == 2 {
             return true;
         }
-        i += 1;
     }
     false
 }
@@ -149,31 +143,29 @@ pub fn check(trace: &[u8], start: usize) -> Answer
     ensures { result ≡ check_trace trace.now start }
 {
     let size = trace.len();
-    if length_ok(size) {
-        let n = size / 5;
-        if start < n {
-            if output_in_loop(trace, start) {
-                return check_steps(trace, start, Answer::Count(n));
-            }
-            return check_steps(trace, start, Answer::Refused(Cause::BadTrace, start));
-        }
-        return Answer::Refused(Cause::BadTrace, n);
+    if !length_ok(size) {
+        return Err(Cause::BadTrace.at(size));
     }
-    Answer::Refused(Cause::BadTrace, size)
+    let n = size / 5;
+    if n <= start {
+        return Err(Cause::BadTrace.at(n));
+    }
+    check_steps(trace, start)?;
+    if !output_in_loop(trace, start) {
+        return Err(Cause::BadTrace.at(start));
+    }
+    Ok(n)
 }
 
 // How many positions are Input.
 pub fn count_inputs(trace: &[u8]) -> usize
     ensures { result ≡ inputs_in trace.now }
 {
-    let n = trace.len() / 5;
     let mut count: usize = 0;
-    let mut i: usize = 0;
-    while i < n {
-        if phase_in(trace, i) == 0 {
+    for p in 0..trace.len() / 5 {
+        if phase_in(trace, p) == 0 {
             count += 1;
         }
-        i += 1;
     }
     count
 }

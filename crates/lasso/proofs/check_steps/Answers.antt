@@ -1,30 +1,22 @@
 use native.Mathlib.Nat.{sub-zero}
-use Rattle.lasso.proofs.Positions.{after_inside, next_phase}
-use Rattle.lasso.proofs.Steps.{steps_on, steps_stop, steps_end}
 use mathlib.Core.Path.{◌∙◌}
+use Rattle.std.proofs.Common.{rules}
+use Rattle.lasso.proofs.Steps.{steps_on, steps_stop, steps_end}
 use Rattle.lasso.proofs.check_steps.Goals as goal
 
-pub loop-i-init : goal.loop-i-init
-loop-i-init c = (rw sub-zero, λ _. c.phase_in-here.ensures)
+pub loop-p-init : goal.loop-p-init
+loop-p-init c = λ fine. rw sub-zero
 
-pub phase_in-next-requires : goal.phase_in-next-requires
-phase_in-next-requires c =
-    rw c.after.ensures (after_inside _ c.requires)
+pub returns-then-not-may_follow : goal.returns-then-not-may_follow
+returns-then-not-may_follow c = λ fine.
+    rw c.at.ensures
+    (steps_stop _ _ _ fine _ (search rules) _ _ _ _ c.phase_in.ensures c.after.ensures c.phase_in-next.ensures c.may_follow.ensures c.if-not-may_follow.true
+    ∙ c.loop-p.invariant fine)
 
-pub loop-i-preserved : goal.loop-i-preserved
-loop-i-preserved c = (
-  steps_on _ _ _ _ _ c.loop-i-test.true _ _ _ _ (c.loop-i.invariant.1 c.loop-i-test.true)
-      c.after.ensures c.phase_in-next.ensures c.may_follow.ensures c.if-may_follow.true
-      ∙ c.loop-i.invariant.0,
-  next_phase c.args.trace.now _ c.args.start _ _ c.after.ensures
-      c.phase_in-next.ensures,
-)
-
-pub returns-else-may_follow : goal.returns-else-may_follow
-returns-else-may_follow c =
-    steps_stop _ _ _ _ _ c.loop-i-test.true _ _ _ _ (c.loop-i.invariant.1 c.loop-i-test.true)
-    c.after.ensures c.phase_in-next.ensures c.may_follow.ensures c.if-may_follow.false
-    ∙ c.loop-i.invariant.0
+pub loop-p-preserved : goal.loop-p-preserved
+loop-p-preserved c = λ fine.
+    steps_on _ _ _ fine _ (search rules) _ _ _ _ c.phase_in.ensures c.after.ensures c.phase_in-next.ensures c.may_follow.ensures c.if-not-may_follow.false
+    ∙ c.loop-p.invariant fine
 
 pub returns : goal.returns
-returns c = steps_end _ _ _ _ _ c.loop-i-test.false ∙ c.loop-i.invariant.0
+returns c = λ fine. steps_end _ _ _ fine _ c.loop-p-test.false ∙ c.loop-p.invariant fine
