@@ -5,6 +5,7 @@ use mathlib.Core.Bool.{Bool, true, false, So, not as neg, ◌&&◌, decide, fals
 use mathlib.Core.List.{List, [], ◌∷◌}
 use lib.Dec.{eqb}
 use borrow.Author.Tests.{eqb-true}
+use Rattle.std.specs.Prelude.{Ok}
 use Rattle.requirement.specs.declared.Phase.TheVariants.{Input}
 use Rattle.requirement.specs.declared.One.TheVariants.{Not}
 use Rattle.requirement.specs.declared.Two.TheVariants.{And}
@@ -17,7 +18,6 @@ use Rattle.meaning.specs.Rows.{judge, walk}
 use Rattle.meaning.specs.Findings.{select}
 use Rattle.marked.specs.Marked.{answered, bench, bench_bytes, one_input, one_input_bytes, marked, slips, one_input_cases}
 use Rattle.marked.specs.Marked.{Case, holds, fails, finds, gives, bytes, StatedOn, Stated, All}
-use Rattle.coding.specs.declared.Answer.TheVariants.{Count}
 use Rattle.bits.specs.Bits.{bit_b}
 use Rattle.lasso.specs.Bytes.{atom_at, atom_b}
 use Rattle.lasso.specs.Checking.{check_trace, check_by, length_ok, may_follow, steps_from, output_from}
@@ -27,14 +27,14 @@ use Rattle.meaning.proofs.Judged.{judged}
 use Rattle.meaning.proofs.Found.{found}
 
 -- Both traces are well-formed, by the check of their bytes.
-bench_checked : check_trace bench_bytes 4 ≡ Count 12
+bench_checked : check_trace bench_bytes 4 ≡ Ok 12
 unfolding check_by length_ok may_follow steps_from output_from
 bench_checked = refl
 
 bench_well : WellFormed bench
 bench_well = (accepted_is_well_formed bench_bytes 4 12 bench_checked).well_formed
 
-one_input_checked : check_trace one_input_bytes 4 ≡ Count 8
+one_input_checked : check_trace one_input_bytes 4 ≡ Ok 8
 unfolding check_by length_ok may_follow steps_from output_from
 one_input_checked = refl
 

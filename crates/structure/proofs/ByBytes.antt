@@ -11,15 +11,14 @@ use lib.ListN.{length, get_or, drop}
 use lib.Seq.{drop-append_seam, drop-drop}
 use lib.Dec.{ltb, lit<}
 use borrow.Author.Tests.{lt-ltb, le-ltb, ne_eqb, ltb-true, ltb-false}
+use Rattle.coding.specs.Refusal.{Answer, value_then, refused_at}
+use Rattle.std.specs.Prelude.{Ok}
 use Rattle.coding.specs.Number.{bytes_of, first, none, number_at}
 use Rattle.coding.specs.Code.{Code, code_at, values, bytes_of_all}
 use Rattle.coding.specs.declared.Cause.TheVariants.{TooLarge}
-use Rattle.coding.specs.declared.Number.TheVariants.{Value, Fault}
-use Rattle.coding.specs.declared.Answer.{Answer}
-use Rattle.coding.specs.declared.Answer.TheVariants.{Count}
 use Rattle.coding.proofs.Bytes.{bytes₃}
 use Rattle.coding.proofs.Trip.{read_written}
-use Rattle.coding.proofs.Rows.{Row, row}
+use Rattle.coding.specs.Working.Rows.{Row, row}
 use Rattle.coding.proofs.Trips.{Clean, read_back, write_back}
 use Rattle.table.specs.Table.{table_grammar, inputs_grammar}
 use Rattle.lookups.specs.Structure.{Table, numbers_of}
@@ -53,11 +52,11 @@ too_large v rest large =
 
 -- The bytes of a number stand at a place of s, and a rest behind them.
 module _ (s : List ℕ) (p v : ℕ) (rest : List ℕ) (e : drop p s ≡ bytes_of v ++ rest) where
-  small_there : v < 65536 → number_at s p ≡ Value v (p + length (bytes_of v))
+  small_there : v < 65536 → number_at s p ≡ value_then v (p + length (bytes_of v))
   unfolding number_at
   small_there h = rw (e, read_written v rest h)
 
-  large_there : 65536 ≤ v → number_at s p ≡ Fault TooLarge p
+  large_there : 65536 ≤ v → number_at s p ≡ refused_at TooLarge p
   unfolding number_at
   large_there h = rw (e, too_large v rest h)
 
@@ -71,10 +70,10 @@ module _ (s : List ℕ) (p v : ℕ) (rest : List ℕ) (e : drop p s ≡ bytes_of
       go : (t : Bool) → ltb v 65536 ≡ t → (v < 65536) × Clean (code_at s (p + length (bytes_of v)))
       go true q =
           let small = ltb-true v 65536 q in
-          let r : Row s p (Value v (p + length (bytes_of v))) = rw (small_there small) at (row s p) in
+          let r : Row s p (value_then v (p + length (bytes_of v))) = rw (small_there small) at (row s p) in
           (small, rw r.0 at clean)
       go false q =
-          let r : Row s p (Fault TooLarge p) = rw (large_there (ltb-false v 65536 q)) at (row s p) in
+          let r : Row s p (refused_at TooLarge p) = rw (large_there (ltb-false v 65536 q)) at (row s p) in
           absurd (⊎_elim (λ o. let z : ◌≡◌ {A = ℕ} 0 1 = cc in omega arith) (λ o. rw o.1 at clean) r.1)
 
 -- So for all the numbers whose bytes stand there, and for a code that is nothing else.
@@ -104,22 +103,22 @@ same_encoded {numbers = numbers} e y b =
 
 -- The grammar accepts the numbers of what is allowed, and nothing else; and it counts them.
 record Just {A : Type 0} (numbers : A → List ℕ) (IsAllowed : A → Type 0) (grammar : Code → Answer) : Type 0 where
-  pub only : (c : Code) (n : ℕ) → grammar c ≡ Count n →
+  pub only : (c : Code) (n : ℕ) → grammar c ≡ Ok n →
       (x : A) × (values c ≡ numbers x) × IsAllowed x × Clean c × (n ≡ length (numbers x))
-  pub all : (c : Code) (x : A) → IsAllowed x → values c ≡ numbers x → Clean c → grammar c ≡ Count (length (numbers x))
+  pub all : (c : Code) (x : A) → IsAllowed x → values c ≡ numbers x → Clean c → grammar c ≡ Ok (length (numbers x))
 
 module _ {A : Type 0} {numbers : A → List ℕ} {IsAllowed : A → Type 0} {grammar : Code → Answer}
     (just : Just numbers IsAllowed grammar) where
   -- The bytes are accepted: they read as the numbers they were made of.
   bytes_accepted : (x : A) → IsAllowed x → OfCoding (numbers x) →
-      grammar (code_at (bytes_of_all (numbers x)) 0) ≡ Count (length (numbers x))
+      grammar (code_at (bytes_of_all (numbers x)) 0) ≡ Ok (length (numbers x))
   bytes_accepted x a coded =
       let r = read_back (numbers x) coded in
       just.all (code_at (bytes_of_all (numbers x)) 0) x a r.0 r.1
 
   module _ (s : List ℕ) (small : (i : ℕ) → get_or s i 0 < 256) where
     -- What is accepted are such bytes: the bytes of the numbers that were read.
-    encoded : (n : ℕ) → grammar (code_at s 0) ≡ Count n →
+    encoded : (n : ℕ) → grammar (code_at s 0) ≡ Ok n →
         (e : Encodes numbers IsAllowed s) × (n ≡ length (numbers e.thing))
     encoded n h =
         let (x, is, a, clean, count) = just.only (code_at s 0) n h in
@@ -127,7 +126,7 @@ module _ {A : Type 0} {numbers : A → List ℕ} {IsAllowed : A → Type 0} {gra
         let coded = clean_is_coded (numbers x) (rw bytes at clean) in
         (record { thing = x; allowed = a; of_coding = coded; bytes = bytes }, count)
 
-    accepted_encodes : ((n : ℕ) × (grammar (code_at s 0) ≡ Count n)) ↔ Encodes numbers IsAllowed s
+    accepted_encodes : ((n : ℕ) × (grammar (code_at s 0) ≡ Ok n)) ↔ Encodes numbers IsAllowed s
     accepted_encodes = (
       λ (n, h). (encoded n h).0,
       λ e. rw e.bytes (_, bytes_accepted e.thing e.allowed e.of_coding),
@@ -140,16 +139,16 @@ module _ (most : ℕ) (few : most ≤ 64) where
 
   -- The bytes of a table that is allowed, and whose numbers are of the coding, are accepted, and its numbers counted.
   pub table_bytes_accepted : (t : Table) → Allowed most t → OfCoding (numbers_of t) →
-      table_grammar most (code_at (bytes_of_all (numbers_of t)) 0) ≡ Count (length (numbers_of t))
+      table_grammar most (code_at (bytes_of_all (numbers_of t)) 0) ≡ Ok (length (numbers_of t))
   table_bytes_accepted = bytes_accepted just_tables
 
   module _ (s : List ℕ) (small : (i : ℕ) → get_or s i 0 < 256) where
     -- Bytes are accepted as a table exactly if they are the bytes of such a table.
-    pub accepted_is_table : ((n : ℕ) × (table_grammar most (code_at s 0) ≡ Count n)) ↔ IsTable most s
+    pub accepted_is_table : ((n : ℕ) × (table_grammar most (code_at s 0) ≡ Ok n)) ↔ IsTable most s
     accepted_is_table = accepted_encodes just_tables s small
 
     -- They are then the bytes of one table only, whether another is allowed or not; and its numbers are counted.
-    pub exactly_one_table : (n : ℕ) → table_grammar most (code_at s 0) ≡ Count n →
+    pub exactly_one_table : (n : ℕ) → table_grammar most (code_at s 0) ≡ Ok n →
         (e : IsTable most s) × (n ≡ length (numbers_of e.thing))
         × ((u : Table) → s ≡ bytes_of_all (numbers_of u) → u ≡ e.thing)
     exactly_one_table n h =
@@ -163,16 +162,16 @@ module _ (inputs : ℕ) where
 
   -- The bytes of an inputs record that is allowed, and whose numbers are of the coding, are accepted.
   pub inputs_bytes_accepted : (r : Inputs) → InputsAllowed inputs r → OfCoding (input_numbers r) →
-      inputs_grammar inputs (code_at (bytes_of_all (input_numbers r)) 0) ≡ Count (length (input_numbers r))
+      inputs_grammar inputs (code_at (bytes_of_all (input_numbers r)) 0) ≡ Ok (length (input_numbers r))
   inputs_bytes_accepted = bytes_accepted just_records
 
   module _ (s : List ℕ) (small : (i : ℕ) → get_or s i 0 < 256) where
     -- Bytes are accepted as an inputs record exactly if they are the bytes of such a record.
-    pub accepted_is_inputs : ((n : ℕ) × (inputs_grammar inputs (code_at s 0) ≡ Count n)) ↔ IsInputs inputs s
+    pub accepted_is_inputs : ((n : ℕ) × (inputs_grammar inputs (code_at s 0) ≡ Ok n)) ↔ IsInputs inputs s
     accepted_is_inputs = accepted_encodes just_records s small
 
     -- They are then the bytes of one record only, where it is known how many readings each scan has.
-    pub exactly_one_inputs : (n : ℕ) → inputs_grammar inputs (code_at s 0) ≡ Count n →
+    pub exactly_one_inputs : (n : ℕ) → inputs_grammar inputs (code_at s 0) ≡ Ok n →
         (e : IsInputs inputs s) × (n ≡ length (input_numbers e.thing))
         × ((u : Inputs) → EachHas inputs u.readings → s ≡ bytes_of_all (input_numbers u) → u ≡ e.thing)
     exactly_one_inputs n h =

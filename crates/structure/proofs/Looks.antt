@@ -5,9 +5,9 @@ use mathlib.Core.Path.{◌≡◌, refl, ap, ◌∙◌}
 use mathlib.Core.List.{List, [], ◌∷◌}
 use native.Mathlib.Omega.{arith}
 use lib.ListN.{length}
+use Rattle.coding.specs.Refusal.{Answer}
+use Rattle.std.specs.Prelude.{Ok, Err}
 use Rattle.coding.specs.Code.{Code, item, end, broken, values}
-use Rattle.coding.specs.declared.Answer.{Answer}
-use Rattle.coding.specs.declared.Answer.TheVariants.{Count, Refused}
 use Rattle.coding.proofs.Trips.{Clean}
 use Rattle.ranges.specs.Order.{step_of}
 use Rattle.ranges.specs.declared.Want.{Want}
@@ -52,8 +52,8 @@ Passing most final after kept xs t = Then (λ next. Passes most final after next
 
 -- What holds if an answer accepts.
 abbrev pub If : Answer → Type 0 → Type 0
-If (Count n) P = P
-If (Refused cause p) P = Unit {0}
+If (Ok n) P = P
+If (Err why) P = Unit {0}
 
 module _ (most : ℕ) where
   -- ---- from the grammar to the numbers
@@ -73,42 +73,42 @@ module _ (most : ℕ) where
 
   module _ (final : List ℕ) (n : ℕ) where
     second : (c : Code) (want : Want) (kept : List ℕ) → Ends most final kept want (values c) →
-        If (tests_from most final want c (Count n)) (Passes most final kept want (values c))
+        If (tests_from most final want c (Ok n)) (Passes most final kept want (values c))
     unfolding tests_from
     second (end p) want kept h = absurd h
     second (broken cause p) want kept h = absurd h
     second (item p v c) want kept h =
         let after = noted (role_of want) v kept in
         let fine =
-        (elim (step_of most want v) as (λ t. Ending most final after kept (values c) t → If (tests most final (Count n) c t) (Passing most final after kept (values c) t))
+        (elim (step_of most want v) as (λ t. Ending most final after kept (values c) t → If (tests most final (Ok n) c t) (Passing most final after kept (values c) t))
         [ More to ↦ λ k. second c to after k | Last ↦ λ k. k | NotAllowed ↦ λ k. absurd k ])
         h in
         elim (test_says final (role_of want) v)
         as (λ s.
-        If (shows (tests most final (Count n) c (step_of most want v)) p (Count n) s)
+        If (shows (tests most final (Ok n) c (step_of most want v)) p (Ok n) s)
         (Unless (Passing most final after kept (values c) (step_of most want v)) (Ends most final kept want (v ∷ values c)) s))
         [ Fine ↦ fine | Wrong ↦ tt | Behind ↦ h ]
 
   -- ---- from the numbers to the grammar
   module _ (final : List ℕ) where
     pub first_back : (c : Code) (want : Want) (n : ℕ) (kept : List ℕ) → Clean c → Ends most final kept want (values c) →
-        (check most want n c ≡ Count (n + length (values c))) × (counts_from most want kept c ≡ final)
+        (check most want n c ≡ Ok (n + length (values c))) × (counts_from most want kept c ≡ final)
     unfolding check counts_from
     first_back (end p) want n kept l h = absurd h
     first_back (broken cause p) want n kept l h = absurd h
     first_back (item p v c) want n kept l h =
         let after = noted (role_of want) v kept in
         (elim (step_of most want v)
-        as (λ t. Ending most final after kept (values c) t → (checks most n p c t ≡ Count (n + suc (length (values c)))) × (counts most kept after c t ≡ final)) [
-          | More to ↦ λ k. let r = first_back c to (n + 1) after l k in (r.0 ∙ ap Count (omega arith), r.1)
+        as (λ t. Ending most final after kept (values c) t → (checks most n p c t ≡ Ok (n + suc (length (values c)))) × (counts most kept after c t ≡ final)) [
+          | More to ↦ λ k. let r = first_back c to (n + 1) after l k in (r.0 ∙ ap Ok (omega arith), r.1)
           | Last ↦ λ k. (none_left c l k.0, k.1)
           | NotAllowed ↦ λ k. absurd k
         ])
         h
       where
-        none_left : (d : Code) → Clean d → values d ≡ [] → ended (n + 1) d ≡ Count (n + suc (length (values d)))
+        none_left : (d : Code) → Clean d → values d ≡ [] → ended (n + 1) d ≡ Ok (n + suc (length (values d)))
         none_left (item q x d) k e = let z : ◌≡◌ {A = ℕ} 0 1 = cc in absurd (omega arith)
-        none_left (end q) k e = ap Count (omega arith)
+        none_left (end q) k e = ap Ok (omega arith)
         none_left (broken cause q) k e = absurd k
 
     second_back : (accepted : Answer) (c : Code) (want : Want) (kept : List ℕ) → Passes most final kept want (values c) →
@@ -138,7 +138,7 @@ module _ (most : ℕ) where
     pub final : List ℕ
     pub passes : Passes most final no_counts table_start (values c)
 
-  pub read : (c : Code) (n : ℕ) → table_grammar most c ≡ Count n → Read c n
+  pub read : (c : Code) (n : ℕ) → table_grammar most c ≡ Ok n → Read c n
   unfolding table_grammar
   read c n e =
       record {
@@ -148,16 +148,16 @@ module _ (most : ℕ) where
         passes = by_answer (check most table_start 0 c) (first c table_start 0 no_counts) e;
       }
     where
-      by_answer : (a : Answer) → If a (Ends most (counts_from most table_start no_counts c) no_counts table_start (values c)) → tested most c a ≡ Count n →
+      by_answer : (a : Answer) → If a (Ends most (counts_from most table_start no_counts c) no_counts table_start (values c)) → tested most c a ≡ Ok n →
           Passes most (counts_from most table_start no_counts c) no_counts table_start (values c)
-      by_answer (Count m) h t = rw t at (second (counts_from most table_start no_counts c) m c table_start no_counts h)
-      by_answer (Refused cause p) h t = let z : ◌≡◌ {A = ℕ} 0 1 = cc in absurd (omega arith)
+      by_answer (Ok m) h t = rw t at (second (counts_from most table_start no_counts c) m c table_start no_counts h)
+      by_answer (Err why) h t = let z : ◌≡◌ {A = ℕ} 0 1 = cc in absurd (omega arith)
 
   -- A row that is all numbers, and whose numbers pass, is accepted.
-  pub read_back : (final : List ℕ) (c : Code) → Clean c → Passes most final no_counts table_start (values c) → table_grammar most c ≡ Count (length (values c))
+  pub read_back : (final : List ℕ) (c : Code) → Clean c → Passes most final no_counts table_start (values c) → table_grammar most c ≡ Ok (length (values c))
   unfolding table_grammar
   read_back final c l h =
-      let s = second_back final (Count (length (values c))) c table_start no_counts h in
+      let s = second_back final (Ok (length (values c))) c table_start no_counts h in
       let f = first_back final c table_start 0 no_counts l s.0 in
       let same : 0 + length (values c) ≡ length (values c) = omega arith in
       rw (f.0, same, f.1) s.1

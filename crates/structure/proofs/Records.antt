@@ -8,10 +8,10 @@ use mathlib.Core.List.{List, [], ◌∷◌}
 use lib.ListN.{length}
 use lib.Dec.{ltb, leb, eqb}
 use borrow.Author.Tests.{le-ltb, lt-leb, le-leb, ne_eqb, eq-eqb, ltb-false, leb-true, leb-false, eqb-true, eqb-false}
+use Rattle.coding.specs.Refusal.{Answer, refused_at}
+use Rattle.std.specs.Prelude.{Ok, Err}
 use Rattle.coding.specs.Code.{Code, numbered, values}
 use Rattle.coding.specs.declared.Cause.TheVariants.{NotAllowed}
-use Rattle.coding.specs.declared.Answer.{Answer}
-use Rattle.coding.specs.declared.Answer.TheVariants.{Count, Refused}
 use Rattle.coding.proofs.Trips.{Clean}
 use Rattle.coding.proofs.Grammars.{numbered_is}
 use Rattle.ranges.specs.Limits.{most_variables, most_scans}
@@ -136,17 +136,17 @@ module _ (inputs : ℕ) where
     pub told : inputs ≤ most_variables
     pub taken : Scanned inputs (values c)
 
-  read : (c : Code) (n : ℕ) → inputs_grammar inputs c ≡ Count n → Read c
+  read : (c : Code) (n : ℕ) → inputs_grammar inputs c ≡ Ok n → Read c
   unfolding inputs_grammar
   read c n e = go (ltb most_variables inputs) refl e
     where
       by_answer : (a : Answer) → If a (Ends 0 (counts_from 0 (Scans inputs) [] c) [] (Scans inputs) (values c)) →
-          a ≡ Count n → Scanned inputs (values c)
-      by_answer (Count m) h t = scans_ends (counts_from 0 (Scans inputs) [] c) [] inputs (values c) h
-      by_answer (Refused cause p) h t = let z : ◌≡◌ {A = ℕ} 0 1 = cc in absurd (omega arith)
+          a ≡ Ok n → Scanned inputs (values c)
+      by_answer (Ok m) h t = scans_ends (counts_from 0 (Scans inputs) [] c) [] inputs (values c) h
+      by_answer (Err why) h t = let z : ◌≡◌ {A = ℕ} 0 1 = cc in absurd (omega arith)
 
       go : (t : Bool) → ltb most_variables inputs ≡ t →
-          pick t (Refused NotAllowed 0) (check 0 (Scans inputs) 0 c) ≡ Count n → Read c
+          pick t (refused_at NotAllowed 0) (check 0 (Scans inputs) 0 c) ≡ Ok n → Read c
       go true q e = let z : ◌≡◌ {A = ℕ} 0 1 = cc in absurd (omega arith)
       go false q e =
           record {
@@ -156,7 +156,7 @@ module _ (inputs : ℕ) where
 
   -- ---- the theorems
   -- What is accepted is the numbers of an inputs record that is allowed, as many as were counted.
-  pub accepted_inputs_allowed : (c : Code) (n : ℕ) → inputs_grammar inputs c ≡ Count n →
+  pub accepted_inputs_allowed : (c : Code) (n : ℕ) → inputs_grammar inputs c ≡ Ok n →
       (r : Inputs) × (values c ≡ input_numbers r) × InputsAllowed inputs r × Clean c × (n ≡ length (input_numbers r))
   unfolding input_numbers
   accepted_inputs_allowed c n e =
@@ -178,7 +178,7 @@ module _ (inputs : ℕ) where
 
   -- The numbers of an inputs record that is allowed are accepted, wherever they stand.
   pub allowed_inputs_accepted : (c : Code) (r : Inputs) → InputsAllowed inputs r → values c ≡ input_numbers r → Clean c →
-      inputs_grammar inputs c ≡ Count (length (input_numbers r))
+      inputs_grammar inputs c ≡ Ok (length (input_numbers r))
   unfolding inputs_grammar input_numbers
   allowed_inputs_accepted c r h e l =
       let q = length r.readings in
@@ -188,17 +188,17 @@ module _ (inputs : ℕ) where
       let ends = ends_scans [] [] inputs q (r.return ∷ all) h.scans returned in
       let f = first_back 0 [] c (Scans inputs) 0 [] l (rw e ends) in
       let zero_on : 0 + length (values c) ≡ length (values c) = omega arith in
-      rw (le-ltb most_variables inputs h.told) (f.0 ∙ ap Count (zero_on ∙ ap length e))
+      rw (le-ltb most_variables inputs h.told) (f.0 ∙ ap Ok (zero_on ∙ ap length e))
 
   -- So are they as the writer is handed them.
   pub inputs_accepted : (r : Inputs) → InputsAllowed inputs r →
-      inputs_grammar inputs (numbered 0 (input_numbers r)) ≡ Count (length (input_numbers r))
+      inputs_grammar inputs (numbered 0 (input_numbers r)) ≡ Ok (length (input_numbers r))
   inputs_accepted r h =
       let n = numbered_is 0 (input_numbers r) in
       allowed_inputs_accepted (numbered 0 (input_numbers r)) r h n.0 n.1
 
   -- An accepted code is the code of exactly one record that has so many readings in each scan, and that is allowed.
-  pub exactly_one_record : (c : Code) (n : ℕ) → inputs_grammar inputs c ≡ Count n →
+  pub exactly_one_record : (c : Code) (n : ℕ) → inputs_grammar inputs c ≡ Ok n →
       (r : Inputs) × (values c ≡ input_numbers r) × InputsAllowed inputs r
       × ((u : Inputs) → EachHas inputs u.readings → values c ≡ input_numbers u → u ≡ r)
   exactly_one_record c n e =

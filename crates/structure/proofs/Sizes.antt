@@ -8,8 +8,8 @@ use native.Mathlib.Nat.{suc-mul, mul-le-mul}
 use native.Mathlib.Omega.{arith}
 use lib.ListN.{length, replicate, length-append, length-replicate}
 use lib.Dec.{lit≤}
+use Rattle.std.specs.Prelude.{Ok}
 use Rattle.coding.specs.Code.{Code}
-use Rattle.coding.specs.declared.Answer.TheVariants.{Count}
 use Rattle.ranges.specs.Limits.{most_processes}
 use Rattle.table.specs.Table.{table_grammar, inputs_grammar}
 use Rattle.lookups.specs.declared.ActionRow.{ActionRow}
@@ -65,13 +65,13 @@ numbers_most t h =
     let b = in_order_most process_numbers 777 (process_most t) 1 t.processes h.processes in
     simp length-append (omega arith)
 
-pub table_size : (c : Code) (n : ℕ) → table_grammar most_processes c ≡ Count n → n ≤ 6348
+pub table_size : (c : Code) (n : ℕ) → table_grammar most_processes c ≡ Ok n → n ≤ 6348
 table_size c n e =
     let a = accepted_is_allowed most_processes (omega arith) c n e in
     rw a.4 (numbers_most a.0 a.2)
 
 -- ---- an inputs record: 2 + 1,365 * 32
-pub inputs_size : (inputs : ℕ) (c : Code) (n : ℕ) → inputs_grammar inputs c ≡ Count n → n ≤ 43682
+pub inputs_size : (inputs : ℕ) (c : Code) (n : ℕ) → inputs_grammar inputs c ≡ Ok n → n ≤ 43682
 inputs_size inputs c n e =
     let (r, is, fine, clean, count) = accepted_inputs_allowed inputs c n e in
     let size = input_numbers_length inputs r fine.readings in

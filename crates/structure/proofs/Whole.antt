@@ -6,8 +6,8 @@ use mathlib.Core.List.{List, [], ◌++◌, append-nil}
 use native.Mathlib.Omega.{arith}
 use lib.ListN.{length}
 use borrow.Author.Tests.{leb-true, le-leb}
+use Rattle.std.specs.Prelude.{Ok}
 use Rattle.coding.specs.Code.{Code, numbered, values}
-use Rattle.coding.specs.declared.Answer.TheVariants.{Count}
 use Rattle.coding.proofs.Trips.{Clean}
 use Rattle.coding.proofs.Grammars.{numbered_is}
 use Rattle.ranges.specs.Limits.{most_variables, most_states, most_actions, most_tests}
@@ -69,7 +69,7 @@ module _ (t : Table) where
 -- ---- the theorems
 module _ (most : ℕ) (few : most ≤ 64) where
   -- What is accepted is the numbers of an allowed table, as many as were counted.
-  pub accepted_is_allowed : (c : Code) (n : ℕ) → table_grammar most c ≡ Count n →
+  pub accepted_is_allowed : (c : Code) (n : ℕ) → table_grammar most c ≡ Ok n →
       (t : Table) × (values c ≡ numbers_of t) × Allowed most t × Clean c × (n ≡ length (numbers_of t))
   accepted_is_allowed c n e =
       let r = read most c n e in
@@ -80,18 +80,18 @@ module _ (most : ℕ) (few : most ≤ 64) where
       (t, same, table_allowed t most few (rw a.goes_on.1 a.ok), r.clean, r.count ∙ ap length same)
 
   -- The numbers of an allowed table are accepted, wherever they stand.
-  pub allowed_is_accepted : (c : Code) (t : Table) → Allowed most t → values c ≡ numbers_of t → Clean c → table_grammar most c ≡ Count (length (numbers_of t))
+  pub allowed_is_accepted : (c : Code) (t : Table) → Allowed most t → values c ≡ numbers_of t → Clean c → table_grammar most c ≡ Ok (length (numbers_of t))
   allowed_is_accepted c t h e l =
       let f = counts_of t.processes in
       let p : Passes most f no_counts table_start (numbers_of t) = rw append-nil at ((table most f).into t [] (table_passes t most few h) (refl, refl)) in
       rw (← e) (read_back most f c l (rw e p))
 
   -- So are they as the writer is handed them.
-  pub numbers_accepted : (t : Table) → Allowed most t → table_grammar most (numbered 0 (numbers_of t)) ≡ Count (length (numbers_of t))
+  pub numbers_accepted : (t : Table) → Allowed most t → table_grammar most (numbered 0 (numbers_of t)) ≡ Ok (length (numbers_of t))
   numbers_accepted t h = let n = numbered_is 0 (numbers_of t) in allowed_is_accepted (numbered 0 (numbers_of t)) t h n.0 n.1
 
   -- An accepted code is the code of exactly one table, and that is allowed.
-  pub exactly_one : (c : Code) (n : ℕ) → table_grammar most c ≡ Count n →
+  pub exactly_one : (c : Code) (n : ℕ) → table_grammar most c ≡ Ok n →
       (t : Table) × (values c ≡ numbers_of t) × Allowed most t × ((u : Table) → values c ≡ numbers_of u → u ≡ t)
   exactly_one c n e =
       let a = accepted_is_allowed c n e in

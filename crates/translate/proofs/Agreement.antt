@@ -11,11 +11,12 @@ use lib.ListN.{length, take}
 use lib.Seq.{take-append_seam}
 use lib.Dec.{ltb}
 use borrow.Author.Tests.{ltb-false}
+use Rattle.coding.specs.Refusal.{refused_at}
+use Rattle.std.specs.Prelude.{Ok}
 use Rattle.coding.specs.Number.{pick}
 use Rattle.coding.specs.Code.{code_at, bytes_of_all}
 use Rattle.coding.specs.Room.{over}
 use Rattle.coding.specs.declared.Cause.TheVariants.{ShortBuffer}
-use Rattle.coding.specs.declared.Answer.TheVariants.{Count, Refused}
 use Rattle.coding.proofs.Bytes.{over_eq}
 use Rattle.requirement.specs.Requirement.{Requirement, atom, mark, one, two}
 use Rattle.requirement.specs.Tags.{tag_of, code_of}
@@ -64,21 +65,21 @@ translation_fits f fits = record {
 }
 
 -- ---- A translation is answered only of a requirement that was read; and what then stands in the buffer is read as its translation.
-accepted : (s out : List ℕ) (n : ℕ) → translated s out ≡ Count n → (room_asked ≤ length out) × (answered (parsed Untranslated (code_at s 0)) ≡ Count n)
+accepted : (s out : List ℕ) (n : ℕ) → translated s out ≡ Ok n → (room_asked ≤ length out) × (answered (parsed Untranslated (code_at s 0)) ≡ Ok n)
 unfolding translated
 accepted s out n e = go (ltb (length out) room_asked) refl e
   where
-    go : (b : Bool) → ltb (length out) room_asked ≡ b → pick b (Refused ShortBuffer room_asked) (answered (parsed Untranslated (code_at s 0))) ≡ Count n →
-        (room_asked ≤ length out) × (answered (parsed Untranslated (code_at s 0)) ≡ Count n)
+    go : (b : Bool) → ltb (length out) room_asked ≡ b → pick b (refused_at ShortBuffer room_asked) (answered (parsed Untranslated (code_at s 0))) ≡ Ok n →
+        (room_asked ≤ length out) × (answered (parsed Untranslated (code_at s 0)) ≡ Ok n)
     go true b a = let z : ◌≡◌ {A = ℕ} 0 1 = cc in absurd (omega arith)
     go false b a = (ltb-false _ _ b, a)
 
-pub translation_is_read : (s out : List ℕ) (n : ℕ) → translated s out ≡ Count n →
+pub translation_is_read : (s out : List ℕ) (n : ℕ) → translated s out ≡ Ok n →
     (f : Requirement) × (parsed Untranslated (code_at s 0) ≡ whole f)
     × (parsed Translated (code_at (take n (over out 0 (translation (parsed Untranslated (code_at s 0))))) 0) ≡ whole (translate f))
 translation_is_read s out n e = let a = accepted s out n e in go a.0 (parsed Untranslated (code_at s 0)) refl a.1
   where
-    go : room_asked ≤ length out → (p : Parsed) → parsed Untranslated (code_at s 0) ≡ p → answered p ≡ Count n →
+    go : room_asked ≤ length out → (p : Parsed) → parsed Untranslated (code_at s 0) ≡ p → answered p ≡ Ok n →
         (f : Requirement) × (parsed Untranslated (code_at s 0) ≡ whole f) × (parsed Translated (code_at (take n (over out 0 (translation p))) 0) ≡ whole (translate f))
     go h (unread cause place) q a = let z : ◌≡◌ {A = ℕ} 0 1 = cc in absurd (omega arith)
     go h (whole f) q a =
@@ -102,7 +103,7 @@ module _ {t : Trace} (w : WellFormed t) where
   )
 
 -- So what translating writes says the same as what it was given.
-pub codes_agree : (s out : List ℕ) (n : ℕ) → translated s out ≡ Count n →
+pub codes_agree : (s out : List ℕ) (n : ℕ) → translated s out ≡ Ok n →
     (f g : Requirement) × (parsed Untranslated (code_at s 0) ≡ whole f)
     × (parsed Translated (code_at (take n (over out 0 (translation (parsed Untranslated (code_at s 0))))) 0) ≡ whole g)
     × ((t : Trace) → WellFormed t → (m : ℕ) → Holds (endless t) g m ↔ Holds (endless t) f m)

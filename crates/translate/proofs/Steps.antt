@@ -1,21 +1,20 @@
 -- What the recursion has written, on each way through it.
 -- Assumes nothing.
+use Rattle.std.specs.Prelude.{Err}
 use Prim.Native.Nat.{ℕ, ◌-◌, ◌≤◌, ◌%◌}
 use native.Mathlib.Omega.{arith}
 use mathlib.Core.Path.{◌≡◌, refl, sym, ◌∙◌}
 use mathlib.Core.List.{List, [], ◌∷◌}
 use lib.ListN.{length}
-use Rattle.coding.specs.declared.Cause.{Cause}
+use Rattle.coding.specs.declared.Refusal.{Refusal}
 use Rattle.requirement.specs.Tags.{code_of, mark_no}
-use Rattle.requirement.specs.Reading.{node_at}
+use Rattle.requirement.specs.Reading.{node_at, node_then}
 use Rattle.requirement.specs.Walking.{Walked, walked, lost, over_one, with_second, over_two, from_node, walk_at}
 use Rattle.requirement.specs.declared.Phase.{Phase}
 use Rattle.requirement.specs.declared.One.{One}
 use Rattle.requirement.specs.declared.Two.{Two}
 use Rattle.requirement.specs.declared.Node.{Node}
 use Rattle.requirement.specs.declared.Node.TheVariants.{Atom, Mark}
-use Rattle.requirement.specs.declared.NodeRead.{NodeRead}
-use Rattle.requirement.specs.declared.NodeRead.TheVariants.{Found, Fault}
 use Rattle.requirement.proofs.Walking.{walk_down, atom_to_31}
 use Rattle.meaning.specs.Translation.{translate}
 use Rattle.translate.specs.Writing.{untranslated, one_before, one_behind, two_before, two_between, two_behind, Put, Wrote}
@@ -24,16 +23,16 @@ use Rattle.translate.proofs.Codes.{one_code, two_code}
 use Rattle.translate.proofs.Putting.{put_length, joined}
 
 -- ---- a node at a place
-module _ (k : ℕ) (s : List ℕ) (at : ℕ) (h : k ≡ 0 → ⊥) (read : NodeRead) (e : read ≡ node_at untranslated s at) where
-  pub no_node : (cause : Cause) (q : ℕ) → read ≡ Fault cause q → walk_at untranslated k s at ≡ lost
-  no_node cause q f = walk_down untranslated s at k h (Fault cause q) (sym e ∙ f)
+module _ (k : ℕ) (s : List ℕ) (at : ℕ) (h : k ≡ 0 → ⊥) where
+  pub no_node : (why : Refusal) → Err why ≡ node_at untranslated s at → walk_at untranslated k s at ≡ lost
+  no_node why e = walk_down untranslated s at k h (Err why) (sym e)
 
-  module _ (node : Node) (next : ℕ) (f : read ≡ Found node next) where
-    found : (n : Node) → node ≡ n → node_at untranslated s at ≡ Found n next
-    found n g = sym e ∙ f ∙ rw g
+  module _ (node : Node) (next : ℕ) (e : node_then node next ≡ node_at untranslated s at) where
+    found : (n : Node) → node ≡ n → node_at untranslated s at ≡ node_then n next
+    found n g = sym e ∙ rw g
 
     pub by_node : (n : Node) → node ≡ n → walk_at untranslated k s at ≡ from_node (λ x. walk_at untranslated (k - 1) s x) n next
-    by_node n g = walk_down untranslated s at k h (Found n next) (found n g)
+    by_node n g = walk_down untranslated s at k h (node_then n next) (found n g)
 
     module _ {d d' : List ℕ} {place r : ℕ} where
       pub wrote_atom : (a : ℕ) → node ≡ Atom a → Put d place (0 ∷ a % 256 ∷ []) d' r →

@@ -4,7 +4,7 @@ use mathlib.Core.Path.{◌≡◌}
 use contract.Lifetimes.{Lfts}
 use borrow.Fn.Kinds.{Dens, ended_of}
 use denote.Triple.Clauses.{AtExit}
-use Rattle.coding.specs.declared.Answer.{Answer}
+use Rattle.coding.specs.Refusal.{Answer}
 use Rattle.coding.proofs.Unique.{one_storing}
 use Rattle.translate.proofs.translate.Kinds as translate
 use Rattle.translate.proofs.translate.Reads as translate_reads

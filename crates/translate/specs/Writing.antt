@@ -1,13 +1,12 @@
 -- Translating. Document 01, Numbers of refusal: "Translating checks: room under 1,408 bytes, requirement"; the answer is the number of bytes, and the rest of the
 -- buffer is unchanged. What a requirement translates to is said in `meaning`.
 -- Assumes nothing: these are definitions.
-use Rattle.std.specs.Prelude.{ℕ, ◌+◌, ◌*◌, min, ◌≡◌, List, [], ◌∷◌, length, ltb}
+use Rattle.coding.specs.Refusal.{Answer, refused_at}
+use Rattle.std.specs.Prelude.{ℕ, ◌+◌, ◌*◌, min, ◌≡◌, List, [], ◌∷◌, length, ltb, Ok}
 use Rattle.coding.specs.Number.{pick}
 use Rattle.coding.specs.Code.{code_at, bytes_of_all}
 use Rattle.coding.specs.Room.{over}
 use Rattle.coding.specs.declared.Cause.TheVariants.{ShortBuffer}
-use Rattle.coding.specs.declared.Answer.{Answer}
-use Rattle.coding.specs.declared.Answer.TheVariants.{Count, Refused}
 use Rattle.requirement.specs.Tags.{code_of, mark_no}
 use Rattle.requirement.specs.Limits.{node_limit}
 use Rattle.requirement.specs.Reading.{Parsed, whole, unread, parsed}
@@ -39,11 +38,11 @@ translation (whole f) = bytes_of_all (code_of (translate f))
 translation (unread cause place) = []
 
 abbrev pub answered : Parsed → Answer
-answered (whole f) = Count (length (bytes_of_all (code_of (translate f))))
-answered (unread cause place) = Refused cause place
+answered (whole f) = Ok (length (bytes_of_all (code_of (translate f))))
+answered (unread cause place) = refused_at cause place
 
 unfoldable pub translated : List ℕ → List ℕ → Answer
-translated s out = pick (ltb (length out) room_asked) (Refused ShortBuffer room_asked) (answered (parsed Untranslated (code_at s 0)))
+translated s out = pick (ltb (length out) room_asked) (refused_at ShortBuffer room_asked) (answered (parsed Untranslated (code_at s 0)))
 
 -- ---- how the code writes it: the numbers of a form before, between and behind its operands
 abbrev pub mark_of : End → ℕ

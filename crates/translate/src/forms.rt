@@ -23,10 +23,8 @@ pub fn put_all(bytes: &[u8], out: &mut [u8], place: usize) -> usize
     ensures { Put out.old place bytes.now out.new result }
 {
     let mut at = place;
-    let mut i: usize = 0;
-    while i < bytes.len() {
-        at = put_one(bytes[i], out, at);
-        i += 1;
+    for byte in bytes {
+        at = put_one(*byte, out, at);
     }
     at
 }

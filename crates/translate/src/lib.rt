@@ -11,7 +11,7 @@ ghost use Rattle.requirement.specs.Reading.{parsed};
 ghost use Rattle.translate.specs.Writing.{translated, translation, untranslated};
 
 use coding::{Answer, Cause};
-use requirement::{Checked, Kind};
+use requirement::Kind;
 
 // Translates a requirement: how many bytes, or a refusal.
 pub fn translate(code: &[u8], out: &mut [u8]) -> Answer
@@ -19,14 +19,9 @@ pub fn translate(code: &[u8], out: &mut [u8]) -> Answer
         × (out.new ≡ stored result out.old (translation (parsed untranslated (code_at code.now 0)))) }
 {
     if out.len() < 1408 {
-        return Answer::Refused(Cause::ShortBuffer, 1408);
+        return Err(Cause::ShortBuffer.at(1408));
     }
-    let none = [0u16; 1];
-    match requirement::check(Kind::Untranslated, true, code, &none) {
-        Checked::Refused(cause, place) => Answer::Refused(cause, place),
-        Checked::Whole(_, depth) => {
-            let end = tree::translate_node(code, 0, depth, out, 0);
-            Answer::Count(end.place)
-        }
-    }
+    let checked = requirement::check(Kind::Untranslated, code)?;
+    let end = tree::translate_node(code, 0, checked.depth, out, 0);
+    Ok(end.place)
 }

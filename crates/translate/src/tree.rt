@@ -4,7 +4,7 @@ ghost use Rattle.requirement.specs.Walking.{walk_at, over_one, over_two};
 ghost use Rattle.translate.specs.Writing.{untranslated, Wrote};
 
 use crate::forms;
-use requirement::{Kind, Node, NodeRead, One, Two};
+use requirement::{Kind, Node, One, Two};
 
 // Where the recursion stands: the place after the code that was read, and the place after what was written.
 #[derive(Clone, Copy)]
@@ -20,36 +20,30 @@ pub fn translate_node(code: &[u8], at: usize, depth: u16, out: &mut [u8], place:
     ensures { Wrote (walk_at untranslated depth code.now at) out.old place out.new result × (result.place ≤ length out.old) }
 {
     if depth == 0 {
-        return Spot {
-            at: at,
-            place: place,
-        };
+        return Spot { at, place };
     }
     let below = depth - 1;
-    match requirement::read_node(Kind::Untranslated, code, at) {
-        NodeRead::Fault(_, _) => Spot {
-            at: at,
-            place: place,
-        },
-        NodeRead::Found(node, next) => match node {
-            Node::Atom(k) => {
-                let number = (k % 256) as u8;
-                let end = forms::put_all(&[0, number], out, place);
-                Spot {
-                    at: next,
-                    place: end,
-                }
+    let Ok(found) = requirement::read_node(Kind::Untranslated, code, at) else {
+        return Spot { at, place };
+    };
+    let next = found.next;
+    match found.node {
+        Node::Atom(k) => {
+            let end = forms::put_all(&[0, (k % 256) as u8], out, place);
+            Spot {
+                at: next,
+                place: end,
             }
-            Node::Mark(mark) => {
-                let end = forms::put_all(&[forms::mark_number(mark)], out, place);
-                Spot {
-                    at: next,
-                    place: end,
-                }
+        }
+        Node::Mark(mark) => {
+            let end = forms::put_all(&[forms::mark_number(mark)], out, place);
+            Spot {
+                at: next,
+                place: end,
             }
-            Node::OverOne(operator) => translate_one(operator, code, next, below, out, place),
-            Node::OverTwo(operator) => translate_two(operator, code, next, below, out, place),
-        },
+        }
+        Node::OverOne(operator) => translate_one(operator, code, next, below, out, place),
+        Node::OverTwo(operator) => translate_two(operator, code, next, below, out, place),
     }
 }
 

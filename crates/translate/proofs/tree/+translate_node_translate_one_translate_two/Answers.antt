@@ -10,28 +10,28 @@ pub translate_node-returns-then-depth-eq0 : goal.translate_node-returns-then-dep
 translate_node-returns-then-depth-eq0 t c =
     rw (walk_none _ _ _ _ c.if-depth-eq0.true) (tt, c.requires)
 
-pub translate_node-returns-in-Fault : goal.translate_node-returns-in-Fault
-translate_node-returns-in-Fault t c =
-    rw (no_node _ _ _ c.if-depth-eq0.false _ c.read_node.ensures _ _ c.in-Fault.is) (tt, c.requires)
+pub translate_node-returns-in_default : goal.translate_node-returns-in_default
+translate_node-returns-in_default t c =
+    rw (no_node _ _ _ c.if-depth-eq0.false _ c.in_default.ensures) (tt, c.requires)
 
 pub translate_node-returns-in-Atom : goal.translate_node-returns-in-Atom
 translate_node-returns-in-Atom t c =
-    wrote_atom _ _ _ c.if-depth-eq0.false _ c.read_node.ensures _ _ c.in-Found.is _ c.in-Atom.is
+    wrote_atom _ _ _ c.if-depth-eq0.false _ _ c.in-Ok.ensures _ c.in-Atom.is
     c.put_all-end.ensures
 
 pub translate_node-returns-in-Mark : goal.translate_node-returns-in-Mark
 translate_node-returns-in-Mark t c =
-    wrote_mark _ _ _ c.if-depth-eq0.false _ c.read_node.ensures _ _ c.in-Found.is _ c.in-Mark.is _
+    wrote_mark _ _ _ c.if-depth-eq0.false _ _ c.in-Ok.ensures _ c.in-Mark.is _
     c.mark_number.ensures c.put_all-end-in-Mark.ensures
 
 pub translate_node-returns-in-OverOne : goal.translate_node-returns-in-OverOne
 translate_node-returns-in-OverOne t c =
-    rw (by_node _ _ _ c.if-depth-eq0.false _ c.read_node.ensures _ _ c.in-Found.is _ c.in-OverOne.is)
+    rw (by_node _ _ _ c.if-depth-eq0.false _ _ c.in-Ok.ensures _ c.in-OverOne.is)
     c.translate_one.ensures
 
 pub translate_node-returns-in-OverTwo : goal.translate_node-returns-in-OverTwo
 translate_node-returns-in-OverTwo t c =
-    rw (by_node _ _ _ c.if-depth-eq0.false _ c.read_node.ensures _ _ c.in-Found.is _ c.in-OverTwo.is)
+    rw (by_node _ _ _ c.if-depth-eq0.false _ _ c.in-Ok.ensures _ c.in-OverTwo.is)
     c.translate_two.ensures
 
 pub translate_one-returns : goal.translate_one-returns
