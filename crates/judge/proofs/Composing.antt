@@ -65,8 +65,8 @@ module _ {t m : List ℕ} (h : Marked t m) (few : positions t ≤ 4096) (phase :
   pub mark_fits : row_of (positions t) ≤ length (mid_of from (length m - from) m)
   mark_fits = rw (mid_len from (length m) m (omega arith)) (omega (arith, e, place_most phase, h.size, few))
 
-  pub mark_is : Same (positions t) (bit_at (mid_of from (length m - from) m)) (is_at t phase)
-  mark_is p l = was (length m - from) (drop from m) p (omega (arith, e, place_most phase, h.size, few)) ∙ rw e (h.rows phase p l)
+  pub mark_is : (k : ℕ) → positions t ≤ 8 * k → Same (positions t) (bit_at (mid_of from k m)) (is_at t phase)
+  mark_is k a p l = was k (drop from m) p (omega arith) ∙ rw e (h.rows phase p l)
 
 -- ---- one row of two lent alone, and back as x
 

@@ -36,7 +36,7 @@ pub fn fill_phase(trace: &[u8], marks: &[u8], phase: Phase, work: &mut [u8])
 {
     let row = (trace.len() / 5 + 7) / 8;
     let from = mark_place(phase);
-    rows::copy_row(&marks[from..], work, row);
+    work[..row].copy_from_slice(&marks[from..from + row]);
 }
 
 // The row where the phase is this one, and nothing elsewhere.
@@ -46,7 +46,7 @@ fn keep(trace: &[u8], start: usize, marks: &[u8], phase: Phase, work: &mut [u8])
 {
     let row = (trace.len() / 5 + 7) / 8;
     let from = mark_place(phase);
-    rows::mask_row(&marks[from..], work, row);
+    rows::with_each(&mut work[..row], &marks[from..], |x, mark| x & mark);
 }
 
 // The row negated: not.
@@ -55,7 +55,7 @@ fn negate(trace: &[u8], start: usize, work: &mut [u8])
     ensures { Same (positions trace.now) (bit_at work.new) (λ p. not (bit_at work.old p)) }
 {
     let row = (trace.len() / 5 + 7) / 8;
-    rows::flip_row(work, row);
+    rows::each_byte(&mut work[..row], |x| !x);
 }
 
 // The phase implies the row: not(phase and not row).
@@ -92,8 +92,9 @@ fn ever(trace: &[u8], start: usize, work: &mut [u8])
     ensures { Same (positions trace.now) (bit_at work.new) ((rowed (trace_of trace.now start)).F (bit_at work.old)) }
 {
     let row = (trace.len() / 5 + 7) / 8;
-    rows::copy_up(work, row);
-    rows::fill_row(work, row);
+    let (first, second) = work.split_at_mut(row);
+    second[..row].copy_from_slice(first);
+    first.fill(255);
     until(trace, start, work);
 }
 
@@ -134,7 +135,8 @@ fn before(trace: &[u8], start: usize, marks: &[u8], other: Phase, phase: Phase, 
 {
     let row = (trace.len() / 5 + 7) / 8;
     keep(trace, start, marks, phase, work);
-    rows::copy_up(work, row);
+    let (first, second) = work.split_at_mut(row);
+    second[..row].copy_from_slice(first);
     lack(trace, start, marks, other, work);
     until(trace, start, work);
 }
@@ -335,7 +337,8 @@ pub fn apply_two(operator: Two, trace: &[u8], start: usize, marks: &[u8], work: 
     match operator {
         Two::And => {
             let row = (trace.len() / 5 + 7) / 8;
-            rows::and_rows(work, row);
+            let (first, second) = work.split_at_mut(row);
+            rows::with_each(first, second, |x, y| x & y);
         }
         Two::Until(family) => {
             until_in(family, trace, start, marks, work);

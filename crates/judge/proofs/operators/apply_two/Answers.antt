@@ -1,20 +1,32 @@
 use native.Mathlib.Omega.{arith}
+use mathlib.Core.Path.{◌≡◌, ap, ◌∙◌}
+use mathlib.Core.Bool.{◌&&◌}
+use mathlib.Core.List.{List}
+use Prim.Native.Nat.{ℕ}
+use lib.ListN.{length, get_or, take}
+use lib.Bits.{bit_and}
+use Rattle.std.proofs.Common.{rules}
+use Rattle.bits.specs.Bits.{bit_at}
+use Rattle.bits.specs.Rows.{row_of}
+use Rattle.bits.proofs.Digits.{bit_and_lem}
+use Rattle.lasso.specs.Bytes.{positions}
+use Rattle.judge.proofs.Bytewise.{front_by}
 use Rattle.judge.proofs.operators.apply_two.Goals as goal
-
-pub until_in-requires : goal.until_in-requires
-until_in-requires c =
-    c.requires
-
-pub shape_of-work-in-And : goal.shape_of-work-in-And
-shape_of-work-in-And c = c.and_rows.auto.work
 
 pub returns-in-And : goal.returns-in-And
 returns-in-And c =
-    rw c.in-And.is (λ p h. c.and_rows.ensures p (omega arith))
-
-pub shape_of-work-in-Until : goal.shape_of-work-in-Until
-shape_of-work-in-Until c = c.until_in.auto.work
-
-pub returns-in-Until : goal.returns-in-Until
-returns-in-Until c =
-    rw c.in-Until.is c.until_in.ensures
+    let a = c.args in
+    let r = row_of (positions a.trace.now) in
+    let w = a.work.now in
+    let x = c.with_each.new.work in
+    let first = c.split_at_mut-first.result.0.now in
+    let second = c.split_at_mut-first.result.1.now in
+    let parts = c.split_at_mut-first.ensures in
+    let size : length x ≡ length (take r w) = rw parts.front at c.with_each.auto.work in
+    rw c.in-And.is
+    (λ p l. front_by r w x (omega (arith, c.requires.0.room)) size (λ y b. y && b) second _
+    (λ i n k d.
+    let h = c.with_each.ensures i (rw (← parts.front) at n) in
+    let e : get_or x i 0 ≡ bit_and (get_or first i 0) (get_or second i 0) = search rules in
+    rw (← parts.front, e) (bit_and_lem _ _ k)) p (omega arith)
+    ∙ ap (λ (s : List ℕ). bit_at w p && bit_at s p) parts.back)
