@@ -42,6 +42,9 @@ full_is r p l = rw (get_or-replicate {A = ℕ} r (p / 8) 255 0 (omega arith)) (b
 pub front_is : (x s : List ℕ) (p : ℕ) → p < 8 * length x → bit_at (x ++ s) p ≡ bit_at x p
 front_is x s p l = same_bits (x ++ s) x p (get_or-append x s 0 (p / 8) (omega arith))
 
+pub back_is : (x s : List ℕ) (r : ℕ) → length x ≡ r → drop r (x ++ s) ≡ s
+back_is x s r e = drop_at x s r e
+
 pub middle_is : (x y s : List ℕ) (r : ℕ) → length x ≡ r → (p : ℕ) → p < 8 * length y → bit_at (drop r (x ++ (y ++ s))) p ≡ bit_at y p
 middle_is x y s r e p l = rw (drop_at x (y ++ s) r e) (front_is y s p l)
 

@@ -28,6 +28,20 @@ use Rattle.judge.specs.declared.Tally.{Tally}
 abbrev pub Same : ℕ → (ℕ → Bool) → (ℕ → Bool) → Type 0
 Same n f g = (p : ℕ) → p < n → f p ≡ g p
 
+-- A work has room for so many rows of a trace's positions; what lies behind its first row; and that row's bits agree with a test.
+abbrev pub HasRows : ℕ → List ℕ → List ℕ → Type 0
+HasRows rows trace work = rows * row_of (positions trace) ≤ length work
+
+abbrev pub behind : List ℕ → List ℕ → List ℕ
+behind trace work = drop (row_of (positions trace)) work
+
+abbrev pub IsRow : List ℕ → List ℕ → (ℕ → Bool) → Type 0
+IsRow trace work f = Same (positions trace) (bit_at work) f
+
+-- The first row of the work v is the test f, and what lies behind it is as in w.
+abbrev pub Became : List ℕ → (ℕ → Bool) → List ℕ → List ℕ → Type 0
+Became trace f w v = IsRow trace v f × (behind trace v ≡ behind trace w)
+
 -- Whether position p of the trace has this phase.
 abbrev pub is_at : List ℕ → Phase → ℕ → Bool
 is_at trace phase p = decide (Phase-discrete (phase_from (phase_byte trace p)) phase)

@@ -6,14 +6,16 @@ ghost use Rattle.bits.specs.Bits.{bit_at, count_b};
 ghost use Rattle.bits.specs.Rows.{row_of};
 ghost use Rattle.lasso.specs.Bytes.{positions};
 ghost use Rattle.judge.specs.Judging.{position_bytes};
-ghost use Rattle.judge.specs.Working.{Same, Room, Marked, failing, failing_byte, listed, PutPosition, ListsByte};
+ghost use Rattle.judge.specs.Working.{Same, HasRows, IsRow, failing, listed, PutPosition, ListsByte};
 
+use crate::operators::MarkedTrace;
 use crate::rows;
 
 // Nothing behind the last position.
 fn clear_behind(work: &mut [u8], n: usize)
     requires { (0 < n) × (n ≤ 4096) × (row_of n ≤ length work.old) }
-    ensures { Same n (bit_at work.new) (bit_at work.old) × ((p : ℕ) → n ≤ p → p < 8 * row_of n → bit_at work.new p ≡ false) }
+    ensures { Same n (bit_at work.new) (bit_at work.old)
+        × ((p : ℕ) → n ≤ p → p < 8 * row_of n → bit_at work.new p ≡ false) }
 {
     let row = (n + 7) / 8;
     let i = row - 1;
@@ -22,16 +24,18 @@ fn clear_behind(work: &mut [u8], n: usize)
     work[i] = x & (255 - behind);
 }
 
-// The first row becomes the findings' row, with nothing behind the last position. The row of the phase Input is the first of the marks.
-pub fn keep_failing(trace: &[u8], start: usize, marks: &[u8], work: &mut [u8])
-    requires { Room 1 trace.now start work.old × Marked trace.now marks.now }
-    ensures { Same (positions trace.now) (bit_at work.new) (failing trace.now (bit_at work.old))
-        × ((p : ℕ) → positions trace.now ≤ p → p < 8 * row_of (positions trace.now) → bit_at work.new p ≡ false) }
+// The first row becomes the findings' row, with nothing behind the last position. The row of the phase Input is the
+// first of the marks.
+pub fn keep_failing(marked: &MarkedTrace, work: &mut [u8])
+    requires { HasRows 1 marked.now.trace.now work.old }
+    ensures { IsRow marked.now.trace.now work.new (failing marked.now.trace.now (bit_at work.old))
+        × ((p : ℕ) → positions marked.now.trace.now ≤ p → p < 8 * row_of (positions marked.now.trace.now)
+        → bit_at work.new p ≡ false) }
 {
-    let n = trace.len() / 5;
-    let row = (n + 7) / 8;
-    rows::with_each(&mut work[..row], marks, |holds, input| !holds & input);
-    clear_behind(work, n);
+    let row = marked.row();
+    let failing = |holds: u8, input: u8| !holds & input;
+    rows::with_each(&mut work[..row], marked.marks, failing);
+    clear_behind(work, marked.positions());
 }
 
 // How many bits of a row are set.
