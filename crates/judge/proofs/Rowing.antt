@@ -6,8 +6,7 @@ use native.Mathlib.Nat.{suc-mul}
 use mathlib.Core.Path.{◌≡◌, refl, sym, ap, ap₂, ◌∙◌}
 use mathlib.Core.Bool.{Bool, not, ◌&&◌, decide}
 use mathlib.Core.List.{List}
-use lib.ListN.{length, take, drop, length-drop}
-use lib.Seq.{length-take-le}
+use lib.ListN.{length, drop}
 use lib.Dec.{eqb}
 use borrow.Rule.Slice.PartMut.{put_mid}
 use Rattle.coding.specs.declared.Cause.{Cause}
@@ -89,12 +88,6 @@ room_row d r more h = omega (arith, peel d r more, h)
 
 pub room_two : (d r : ℕ) {n : ℕ} → (d ≡ 0 → ⊥) → suc d * r ≤ n → r + r ≤ n
 room_two d r more h = omega (arith, suc-mul d r, peel d r more, h)
-
--- what lies behind the first row is lent
-pub room_behind : (r : ℕ) (w : List ℕ) {n : ℕ} → length w ≡ n → r ≤ n → n ≤ length (take (length w - r) (drop r w)) + r
-room_behind r w e h =
-    let d : length w - r ≤ length (drop r w) = rw (length-drop r w) (omega arith) in
-    rw (length-take-le (length w - r) (drop r w) d) (omega arith)
 
 -- ---- an operator over rows that were judged
 module _ (trace : List ℕ) (start : ℕ) (inside : start < positions trace) (work : List ℕ) (r : ℕ) where

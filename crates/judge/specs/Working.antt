@@ -2,7 +2,6 @@
 -- Assumes nothing: these are definitions.
 use Rattle.std.specs.Prelude.{ℕ, ◌+◌, ◌-◌, ◌*◌, ◌<◌, ◌≤◌, ◌≡◌, Bool, false, not, ◌&&◌, List, [], ◌∷◌, length, get_or, drop, ltb}
 use Rattle.std.proofs.Math.Bool.{decide}
-use Rattle.std.specs.Int.Bits.{bit_and}
 use Rattle.coding.specs.Number.{pick}
 use Rattle.coding.specs.Room.{over}
 use Rattle.judge.specs.Judging.{position_bytes}
@@ -111,10 +110,6 @@ pub record Tallied (trace : List ℕ) (row : ℕ → Bool) (work : List ℕ) (r 
 abbrev pub Tallies : Walked → List ℕ → ℕ → List ℕ → Tally → Type 0
 Tallies (walked f next) trace start work r = Tallied trace (judge (trace_of trace start) f) work r
 Tallies lost trace start work r = Unit
-
--- A byte of the findings' row: the Input positions at which the requirement's row has no bit.
-unfoldable pub failing_byte : ℕ → ℕ → ℕ
-failing_byte row inputs = bit_and (255 - row) inputs
 
 -- The positions of a row's bits below n, ascending.
 abbrev pub listed : (ℕ → Bool) → ℕ → List ℕ

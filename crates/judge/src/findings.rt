@@ -18,10 +18,8 @@ fn clear_behind(work: &mut [u8], n: usize)
         × ((p : ℕ) → n ≤ p → p < 8 * row_of n → bit_at work.new p ≡ false) }
 {
     let row = (n + 7) / 8;
-    let i = row - 1;
     let behind = rows::low(8 * row - n);
-    let x = work[i];
-    work[i] = x & (255 - behind);
+    work[row - 1] &= !behind;
 }
 
 // The first row becomes the findings' row, with nothing behind the last position. The row of the phase Input is the

@@ -18,7 +18,8 @@ pub fn bit(x: u8, k: usize) -> bool
     (x >> k) % 2 == 1
 }
 
-// Until at the positions of a byte or of four bytes at once, with what is behind them carried in; and what the first of them is.
+// Until at the positions of a byte or of four bytes at once, with what is behind them carried in; and what the first
+// of them is.
 fn until(x: u64, y: u64, behind: u64, positions: u32) -> (u64, u64)
     requires { (positions ≤ 32) × (x < 2 ^ positions) × (y < 2 ^ positions) × (behind < 2) }
     ensures value { (result.0 ≡ until_b x y behind) × (result.0 < 2 ^ positions) }
@@ -49,7 +50,8 @@ fn put_word(work: &mut [u8], i: usize, x: u32)
 // Four bytes at a time from the end of the row, and then the bytes before them.
 fn walk_back(work: &[u8], row: usize, from: usize) -> u64
     requires { (from ≤ row) × (row ≤ 512) × (row + row ≤ length work.now) }
-    ensures { result ≡ digit (walk (bit_at work.now) (bit_at (drop row work.now)) false (8 * row - 8 * from) (8 * from)) }
+    ensures { result
+        ≡ digit (walk (bit_at work.now) (bit_at (drop row work.now)) false (8 * row - 8 * from) (8 * from)) }
 {
     let words = (row - from) / 4;
     let head = row - 4 * words;
@@ -77,7 +79,8 @@ fn step_word(work: &mut [u8], row: usize, i: usize, behind: u64) -> u64
 // One step down of the walk, of 8 positions.
 fn step_byte(work: &mut [u8], row: usize, i: usize, behind: u64) -> u64
     requires { (i < row) × (row ≤ 512) × (row + row ≤ length work.old) × (behind < 2) }
-    ensures row_is { work.new ≡ set work.old i (until_b (slice_index work.old i) (slice_index work.old (row + i)) behind) }
+    ensures row_is { work.new
+        ≡ set work.old i (until_b (slice_index work.old i) (slice_index work.old (row + i)) behind) }
     ensures carry_is { result ≡ carry_b (slice_index work.old i) (slice_index work.old (row + i)) behind }
 {
     let (value, carry) = until(work[i] as u64, work[row + i] as u64, behind, 8);
@@ -88,7 +91,8 @@ fn step_byte(work: &mut [u8], row: usize, i: usize, behind: u64) -> u64
 // The first row until the second, in the first, where `last` is behind the row.
 fn walk_row(work: &mut [u8], row: usize, last: bool)
     requires { (row ≤ 512) × (row + row ≤ length work.old) }
-    ensures { (p : ℕ) → p < 8 * row → bit_at work.new p ≡ walk (bit_at work.old) (bit_at (drop row work.old)) last (8 * row - p) p }
+    ensures { (p : ℕ) → p < 8 * row
+        → bit_at work.new p ≡ walk (bit_at work.old) (bit_at (drop row work.old)) last (8 * row - p) p }
 {
     let head = row % 4;
     let mut carry = last as u64;
@@ -124,24 +128,21 @@ fn pad(work: &mut [u8], row: usize, n: usize)
     requires { (0 < n) × (n ≤ 4096) × (row ≡ row_of n) × (row + row ≤ length work.old) }
     ensures { Padded n row work.old work.new }
 {
-    let k = 8 * row - n;
-    let m = low(k);
-    let i = row - 1;
-    let j = row + i;
-    let x = work[i];
-    let y = work[j];
-    work[i] = x | m;
-    work[j] = y & (255 - m);
+    let last = row - 1;
+    let behind = low(8 * row - n);
+    work[last] |= behind;
+    work[row + last] &= !behind;
 }
 
 // The first row until the second on a lasso, in the first.
 pub fn until_rows(n: usize, start: usize, work: &mut [u8])
     requires { (start < n) × (n ≤ 4096) × (row_of n + row_of n ≤ length work.old) }
-    ensures { (p : ℕ) → p < n → bit_at work.new p ≡ until_on n start (bit_at work.old) (bit_at (drop (row_of n) work.old)) p }
+    ensures { (p : ℕ) → p < n
+        → bit_at work.new p ≡ until_on n start (bit_at work.old) (bit_at (drop (row_of n) work.old)) p }
 {
     let row = (n + 7) / 8;
     pad(work, row, n);
-    let v = join(&work[..], row, start);
+    let v = join(work, row, start);
     walk_row(work, row, v);
 }
 
@@ -168,11 +169,13 @@ pub fn each_byte<F: Fn(u8) -> u8>(work: &mut [u8], operation: F)
     }
 }
 
-// Each byte and the byte of another row at its place by one operation. An adapter of `iter_mut`, such as `zip`, would leave the bytes unknown to the proof.
+// Each byte and the byte of another row at its place by one operation.
+// The place is counted beside the byte: of the bytes that a `zip` over `iter_mut` has written, nothing can be said.
 pub fn with_each<F: Fn(u8, u8) -> u8>(work: &mut [u8], other: &[u8], operation: F)
     requires callable { F.IsAlwaysCallable operation }
     requires long { length work.old ≤ length other.now }
-    ensures { (i : ℕ) → i < length work.old → F.post operation (slice_index work.old i) (slice_index other.now i) (slice_index work.new i) }
+    ensures { (i : ℕ) → i < length work.old
+        → F.post operation (slice_index work.old i) (slice_index other.now i) (slice_index work.new i) }
 {
     for (i, x) in work.iter_mut().enumerate() {
         *x = operation(*x, other[i]);
@@ -213,7 +216,8 @@ fn placed(x: u32, c: usize) -> u8
 
 // Digit k of one of a position's five bytes at c positions from p on, the first of them the highest digit.
 fn digit_byte(trace: &[u8], column: usize, k: usize, p: usize, c: usize) -> u8
-    requires { (column < 5) × (k < 8) × (c ≤ 8) × (p + c ≤ positions trace.now) × (positions trace.now ≤ 4096) }
+    requires { (column < 5) × (k < 8) × (c ≤ 8) × (p + c ≤ positions trace.now)
+        × (positions trace.now ≤ 4096) }
     ensures { Packs (digit_in trace.now column k) p c result }
 {
     let mask = 1u8 << k;
@@ -226,7 +230,8 @@ fn digit_byte(trace: &[u8], column: usize, k: usize, p: usize, c: usize) -> u8
 
 // The row of digit k of one of a position's five bytes.
 fn fill_digit(trace: &[u8], column: usize, k: usize, work: &mut [u8])
-    requires { (column < 5) × (k < 8) × (positions trace.now ≤ 4096) × (row_of (positions trace.now) ≤ length work.old) }
+    requires { (column < 5) × (k < 8) × (positions trace.now ≤ 4096)
+        × (row_of (positions trace.now) ≤ length work.old) }
     ensures { (p : ℕ) → p < positions trace.now → bit_at work.new p ≡ digit_in trace.now column k p }
 {
     let n = trace.len() / 5;
@@ -260,9 +265,11 @@ fn fill_neither(marks: &mut [u8])
     }
 }
 
-// The rows of the phases of a trace whose phase bytes are 0, 1 and 2: their low digit is Exe, the next is Output, and Input has neither.
+// The rows of the phases of a trace whose phase bytes are 0, 1 and 2: their low digit is Exe, the next is Output, and
+// Input has neither.
 pub fn fill_marks(trace: &[u8], marks: &mut [u8])
-    requires { (positions trace.now ≤ 4096) × ((p : ℕ) → p < positions trace.now → phase_byte trace.now p ≤ 2) × (length marks.old ≡ 3 * longest_row) }
+    requires { (positions trace.now ≤ 4096) × ((p : ℕ) → p < positions trace.now → phase_byte trace.now p ≤ 2)
+        × (length marks.old ≡ 3 * longest_row) }
     ensures { Marked trace.now marks.new }
 {
     fill_digit(trace, 0, 0, &mut marks[ROW..2 * ROW]);

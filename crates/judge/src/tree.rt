@@ -1,4 +1,5 @@
-// The recursion over a requirement's nodes: operands are judged one level less deep, the second in what lies behind the first one's row.
+// The recursion over a requirement's nodes: operands are judged one level less deep, the second in what lies behind
+// the first one's row.
 ghost use Rattle.std.specs.Prelude.{suc};
 ghost use Rattle.requirement.specs.Walking.{walk_at, over_one, over_two};
 ghost use Rattle.judge.specs.Working.{HasRows, Rowed};
@@ -53,7 +54,8 @@ fn judge_one(
     work: &mut [u8],
 ) -> usize
     requires { HasRows (suc depth) marked.now.trace.now work.old }
-    ensures { Rowed (over_one operator (walk_at kind depth code.now at)) marked.now.trace.now marked.now.start work.new result }
+    ensures { Rowed (over_one operator (walk_at kind depth code.now at)) marked.now.trace.now marked.now.start
+        work.new result }
 {
     if depth == 0 {
         return at;
