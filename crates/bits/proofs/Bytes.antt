@@ -2,7 +2,7 @@
 -- Assumes nothing.
 use Prim.Native.Nat.{ℕ, ◌+◌, ◌-◌, ◌*◌, ◌/◌, ◌%◌, ◌^◌, ◌<◌, ◌≤◌}
 use mathlib.Core.Path.{◌≡◌, refl, sym, ap, ◌∙◌}
-use mathlib.Core.Bool.{Bool, true, false, ◌&&◌}
+use mathlib.Core.Bool.{Bool, false}
 use mathlib.Core.List.{List}
 use mathlib.Core.Logic.{◌≢◌}
 use native.Mathlib.Omega.{arith}
@@ -13,7 +13,7 @@ use lib.Bits.{bit_and, bit_or}
 use borrow.Rule.Slice.PartMut.{put_mid}
 use Rattle.bits.specs.Bits.{bit_b, bit_at}
 use Rattle.bits.specs.Rows.{row_of, Padded, Packs}
-use Rattle.bits.proofs.Digits.{bit_and_lem, bit_low, up_high, up_low, down_high, down_low}
+use Rattle.bits.proofs.Digits.{up_high, up_low, down_high, down_low}
 
 -- Position 8 * i + q is digit 7 - q of byte i.
 pub at_byte : (s : List ℕ) (i q : ℕ) → q < 8 → bit_at s (8 * i + q) ≡ bit_b (get_or s i 0) (7 - q)
@@ -26,10 +26,6 @@ at_byte s i q h =
 pub packs_byte : (s : List ℕ) (i c : ℕ) → c ≤ 8 → Packs (bit_at s) (8 * i) c (get_or s i 0)
 unfolding Packs
 packs_byte s i c h q l = sym (at_byte s i q (omega arith))
-
-pub packs_full : (p : ℕ) → Packs (λ q. true) p 8 255
-unfolding Packs
-packs_full p q l = bit_low 8 (7 - q) (omega arith)
 
 -- The bits from byte a on.
 pub at_drop : (a : ℕ) (s : List ℕ) (p : ℕ) → bit_at (drop a s) p ≡ bit_at s (8 * a + p)
@@ -80,9 +76,6 @@ pub record Made (f : ℕ → Bool) (s₀ : List ℕ) (i : ℕ) (s : List ℕ) : 
   pub done : (p : ℕ) → p < 8 * i → bit_at s p ≡ f p
   pub rest : (k : ℕ) → i ≤ k → get_or s k 0 ≡ get_or s₀ k 0
 
-pub made_none : (f : ℕ → Bool) (s₀ : List ℕ) → Made f s₀ 0 s₀
-made_none f s₀ = record { size = refl; done = λ p h. absurd (omega arith); rest = λ k h. refl }
-
 module _ {f : ℕ → Bool} {s₀ s : List ℕ} {i : ℕ} (y : ℕ) (hi : i < length s₀) where
   -- Some positions of one byte more, and all of them.
   pub made_part : (c : ℕ) → c ≤ 8 → Packs f (8 * i) c y → Made f s₀ i s → (p : ℕ) → p < 8 * i + c → bit_at (set s i y) p ≡ f p
@@ -101,42 +94,10 @@ module _ {f : ℕ → Bool} {s₀ s : List ℕ} {i : ℕ} (y : ℕ) (hi : i < le
     rest = λ k l. get_or-set_other s i k y 0 (omega arith) ∙ h.rest k (omega arith);
   }
 
--- The next byte of s₀ and c positions of g.
-pub packs_and : {f : ℕ → Bool} {s₀ s : List ℕ} {i : ℕ} (g : ℕ → Bool) (c r : ℕ) → c ≤ 8 → Packs g (8 * i) c r → Made f s₀ i s → Packs (λ p. bit_at s₀ p && g p) (8 * i) c (bit_and (get_or s i 0) r)
-unfolding Packs
-packs_and {f} {s₀} {s} {i} g c r hc hr h q l =
-    rw (bit_and_lem (get_or s i 0) r (7 - q), h.rest i (omega arith), hr q l, at_byte s₀ i q (omega arith))
-
 -- The rest by itself.
 pub made_rest : {f : ℕ → Bool} {s₀ s : List ℕ} {i : ℕ} → Made f s₀ i s → drop i s ≡ drop i s₀
 made_rest {f} {s₀} {s} {i} h =
     ext_get_or 0 (drop i s) (drop i s₀) (simp length-drop (omega (arith, h.size))) (λ k l. rw (get_or-drop i s k 0, get_or-drop i s₀ k 0) (h.rest (i + k) (omega arith)))
-
--- ---- a row copied into the one behind it
-
--- The first i of n bytes of s₀ stand from n on, and the first n are as they were.
-pub record Copied (s₀ : List ℕ) (n i : ℕ) (s : List ℕ) : Type 0 where
-  pub size : length s ≡ length s₀
-  pub done : (k : ℕ) → k < i → get_or s (n + k) 0 ≡ get_or s₀ k 0
-  pub kept : (k : ℕ) → k < n → get_or s k 0 ≡ get_or s₀ k 0
-
-pub copied_none : (s₀ : List ℕ) (n : ℕ) → Copied s₀ n 0 s₀
-copied_none s₀ n = record { size = refl; done = λ k h. absurd (omega arith); kept = λ k h. refl }
-
-pub copied_more : {s₀ s : List ℕ} {n i : ℕ} → i < n → n + n ≤ length s₀ → Copied s₀ n i s → Copied s₀ n (i + 1) (set s (n + i) (get_or s i 0))
-copied_more {s₀} {s} {n} {i} hi hl h = record {
-  size = simp length-set h.size;
-  done = λ k l. go k l (ℕ_discrete k i);
-  kept = λ k l. get_or-set_other s (n + i) k (get_or s i 0) 0 (omega arith) ∙ h.kept k l;
-}
-  where
-    go : (k : ℕ) → k < i + 1 → Dec (k ≡ i) → get_or (set s (n + i) (get_or s i 0)) (n + k) 0 ≡ get_or s₀ k 0
-    go k l (yes e) = rw (e, get_or-set_same s (n + i) (get_or s i 0) 0 (omega (arith, h.size))) (h.kept i hi)
-    go k l (no e) = get_or-set_other s (n + i) (n + k) (get_or s i 0) 0 (omega arith) ∙ h.done k (omega arith)
-
-pub copied_bits : {s₀ s : List ℕ} {n : ℕ} → Copied s₀ n n s → (p : ℕ) → p < 8 * n → (bit_at (drop n s) p ≡ bit_at s₀ p) × (bit_at s p ≡ bit_at s₀ p)
-copied_bits {s₀} {s} {n} h p l =
-    (same_bits (drop n s) s₀ p (get_or-drop n s (p / 8) 0 ∙ h.done (p / 8) (omega arith)), same_bits s s₀ p (h.kept (p / 8) (omega arith)))
 
 -- ---- the last byte of each of two rows, padded
 

@@ -112,10 +112,6 @@ module _ {s₀ : List ℕ} {row : ℕ} {last : Bool} (i : ℕ) {k : ℕ} {s : Li
     second = λ j l. get_or-set_other s i j r 0 (omega arith) ∙ h.second j l;
   }
 
-  -- The bytes not yet walked are those of s₀.
-  pub down_bytes : ((j : ℕ) → get_or s j 0 < 256) → Both s₀ row 8 i (get_or s i 0) (get_or s (row + i) 0)
-  down_bytes fit = both_bytes s₀ row i _ _ (fit i) (fit (row + i)) (h.ahead i (omega arith)) (h.second (row + i) (omega arith))
-
 -- ---- both walks
 
 -- Positions that hold f and not g pass on what is behind them.

@@ -1,31 +1,22 @@
--- The findings' row: the Input positions at which the requirement's row has no bit; made byte by byte, cut behind the last position, and counted.
+-- The findings' row: the Input positions at which the requirement's row has no bit; cut behind the last position, and counted.
 -- Assumes nothing.
 use Prim.Native.Nat.{ℕ, zero, suc, ◌+◌, ◌-◌, ◌*◌, ◌%◌, ◌^◌, ◌<◌, ◌≤◌}
 use native.Mathlib.Omega.{arith}
 use native.Mathlib.Nat.{add-zero}
 use mathlib.Core.Path.{◌≡◌, refl, ap, ◌∙◌}
-use mathlib.Core.Bool.{Bool, true, false, not, ◌&&◌, and_comm}
+use mathlib.Core.Bool.{Bool, true, false, not, ◌&&◌}
 use mathlib.Core.List.{List}
 use lib.ListN.{length, get_or, set}
 use lib.Bits.{bit_and}
 use Rattle.requirement.specs.declared.Phase.TheVariants.{Input}
-use Rattle.bits.specs.Bits.{bit_b, bit_at, digit, count_b}
-use Rattle.bits.specs.Rows.{row_of, Packs}
-use Rattle.bits.proofs.Digits.{bit_and_lem, bit_not, down_high, down_low}
-use Rattle.bits.proofs.Bytes.{Made, at_byte, set_byte}
+use Rattle.bits.specs.Bits.{bit_at, digit, count_b}
+use Rattle.bits.specs.Rows.{row_of}
+use Rattle.bits.proofs.Digits.{down_high, down_low}
+use Rattle.bits.proofs.Bytes.{set_byte}
 use Rattle.bits.proofs.Counts.{count_same, count_add}
 use Rattle.lasso.specs.Bytes.{positions, phase_byte, mark_b}
-use Rattle.judge.specs.Working.{Same, is_at, Marked, failing, failing_byte}
+use Rattle.judge.specs.Working.{Same, is_at, Marked, failing}
 use Rattle.judge.proofs.Rowing.{mark_is}
-
--- A byte more of the findings' row.
-pub packs_failing : {f : ℕ → Bool} {s₀ s : List ℕ} {i : ℕ} (inputs : List ℕ) → get_or s i 0 < 256 → Made f s₀ i s
-    → Packs (λ p. bit_at inputs p && not (bit_at s₀ p)) (8 * i) 8 (failing_byte (get_or s i 0) (get_or inputs i 0))
-unfolding Packs failing_byte
-packs_failing {f} {s₀} {s} {i} inputs hb h q l =
-    let n : bit_b (255 - get_or s i 0) (7 - q) ≡ not (bit_b (get_or s i 0) (7 - q)) = bit_not 8 (get_or s i 0) (7 - q) hb (omega arith) in
-    rw (bit_and_lem (255 - get_or s i 0) (get_or inputs i 0) (7 - q), n, h.rest i (omega arith), at_byte s₀ i q l, at_byte inputs i q l)
-    (and_comm (not (bit_b (get_or s₀ i 0) (7 - q))) (bit_b (get_or inputs i 0) (7 - q)))
 
 -- The row of the phase Input is the first of the marks.
 pub failing_marked : {trace marks : List ℕ} → Marked trace marks → (w v : List ℕ)

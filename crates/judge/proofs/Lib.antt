@@ -7,3 +7,4 @@ pub mod Tallying
 pub mod Accepting
 pub mod Unique
 pub mod Composing
+pub mod Bytewise

@@ -1,4 +1,4 @@
--- Where a digit of a position stands in a trace's bytes, for the loops that pack them; bytes of rows joined; and a digit put by its mask.
+-- An atom's digit in a trace's bytes; bytes of rows joined; and a digit put by its mask.
 -- Assumes nothing.
 use Prim.Native.Nat.{ℕ, ◌+◌, ◌-◌, ◌*◌, ◌/◌, ◌%◌, ◌^◌, ◌<◌, ◌≤◌}
 use mathlib.Core.Path.{◌≡◌, sym, ◌∙◌}
@@ -14,11 +14,6 @@ use Rattle.bits.proofs.Digits.{put_up, put_down, put_lt, mask_is, bit_not, bit_o
 use Rattle.bits.proofs.Bytes.{packs_byte, Made}
 use Rattle.lasso.specs.Bytes.{atom_b}
 use Rattle.judge.specs.Working.{digit_in}
-
-pub digit_here : (t : List ℕ) (column k p j at : ℕ) → at ≡ p * 5 + column + 5 * j → bit_b (get_or t at 0) k ≡ digit_in t column k (p + j)
-digit_here t column k p j at e =
-    let m : at ≡ (p + j) * 5 + column = omega arith in
-    rw m
 
 pub atom_digit : (t : List ℕ) (a p : ℕ) → digit_in t (1 + a / 8) (a % 8) p ≡ atom_b t a p
 unfolding atom_b

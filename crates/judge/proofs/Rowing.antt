@@ -6,8 +6,7 @@ use native.Mathlib.Nat.{suc-mul}
 use mathlib.Core.Path.{◌≡◌, refl, sym, ap, ap₂, ◌∙◌}
 use mathlib.Core.Bool.{Bool, not, ◌&&◌, decide}
 use mathlib.Core.List.{List}
-use lib.ListN.{length, take, drop, length-drop}
-use lib.Seq.{length-take-le}
+use lib.ListN.{length, drop}
 use lib.Dec.{eqb}
 use borrow.Rule.Slice.PartMut.{put_mid}
 use Rattle.coding.specs.declared.Cause.{Cause}
@@ -35,7 +34,7 @@ use Rattle.bits.proofs.Walks.{until_same}
 use Rattle.lasso.specs.Bytes.{phase_number, positions, phase_from, phase_byte, mark_b, atom_b, trace_of}
 use Rattle.lasso.proofs.Positions.{after_inside}
 use Rattle.lasso.proofs.Looking.{atom_within}
-use Rattle.judge.specs.Working.{Same, is_at, Room, one_of, two_of, Rowed}
+use Rattle.judge.specs.Working.{Same, is_at, one_of, two_of, Rowed}
 
 -- ---- rows that agree at the stored positions give, by every operator, rows that agree there
 module _ (t : Trace) (inside : t.loop < t.len) where
@@ -79,32 +78,16 @@ pub mark_is : (trace : List ℕ) (p : Phase) (i : ℕ) → phase_byte trace i �
 unfolding mark_b
 mark_is trace p i h = phase_is (phase_byte trace i) p h
 
--- ---- room, one level down
+-- ---- room for rows of r bytes, one level down
 peel : (d r : ℕ) → (d ≡ 0 → ⊥) → d * r ≡ (d - 1) * r + r
 peel zero r h = absurd (h refl)
 peel (suc d) r h = let m : suc d - 1 ≡ d = omega arith in rw m (suc-mul d r)
 
-pub room_in : {d l : ℕ} {t w : List ℕ} → Room d t l w → (d ≡ 0 → ⊥) → Room (suc (d - 1)) t l w
-room_in {d} h pos = let e : suc (d - 1) ≡ d = omega arith in rw e h
+pub room_row : (d r : ℕ) {n : ℕ} → (d ≡ 0 → ⊥) → d * r ≤ n → r ≤ n
+room_row d r more h = omega (arith, peel d r more, h)
 
-module _ {d l : ℕ} {t w : List ℕ} (h : Room (suc d) t l w) where
-  pub room_row : row_of (positions t) ≤ length w
-  room_row = omega (arith, suc-mul d (row_of (positions t)), h.room)
-
-  pub room_two : (d ≡ 0 → ⊥) → row_of (positions t) + row_of (positions t) ≤ length w
-  room_two more = omega (arith, suc-mul d (row_of (positions t)), peel d (row_of (positions t)) more, h.room)
-
-  pub room_pair : (d ≡ 0 → ⊥) → (v : List ℕ) → length v ≡ length w → Room 2 t l v
-  room_pair more v e = record { inside = h.inside; few = h.few; phases = h.phases; room = omega (arith, room_two more) }
-
-  pub room_less : (v : List ℕ) → length w ≤ length v + row_of (positions t) → Room d t l v
-  room_less v e = record { inside = h.inside; few = h.few; phases = h.phases; room = omega (arith, suc-mul d (row_of (positions t)), h.room) }
-
--- what lies behind the first row is lent
-pub room_behind : (r : ℕ) (w : List ℕ) {n : ℕ} → length w ≡ n → r ≤ n → n ≤ length (take (length w - r) (drop r w)) + r
-room_behind r w e h =
-    let d : length w - r ≤ length (drop r w) = rw (length-drop r w) (omega arith) in
-    rw (length-take-le (length w - r) (drop r w) d) (omega arith)
+pub room_two : (d r : ℕ) {n : ℕ} → (d ≡ 0 → ⊥) → suc d * r ≤ n → r + r ≤ n
+room_two d r more h = omega (arith, suc-mul d r, peel d r more, h)
 
 -- ---- an operator over rows that were judged
 module _ (trace : List ℕ) (start : ℕ) (inside : start < positions trace) (work : List ℕ) (r : ℕ) where

@@ -19,15 +19,12 @@ use Rattle.bits.proofs.Bytes.{same_bits}
 use Rattle.meaning.specs.Rows.{judge}
 use Rattle.lasso.specs.Bytes.{positions, trace_of}
 use Rattle.judge.specs.Working.{Same, Room, failing, Rowed, Tallies}
-use Rattle.judge.proofs.Rowing.{room_in, room_row}
+use Rattle.judge.proofs.Rowing.{room_row}
 use Rattle.judge.proofs.Failing.{count_before}
 use Rattle.judge.proofs.Listing.{select_before}
 
 pub room_some : {d l : ℕ} {t w : List ℕ} → 0 < d → Room d t l w → row_of (positions t) ≤ length w
-room_some h r = room_row (room_in r (λ z. omega arith))
-
-pub room_one : {d l : ℕ} {t w : List ℕ} → 0 < d → Room d t l w → Room 1 t l w
-room_one h r = record { inside = r.inside; few = r.few; phases = r.phases; room = omega (arith, room_some h r) }
+room_some {d} {l} {t} h r = room_row d (row_of (positions t)) (λ z. omega arith) r.room
 
 -- The first position is the highest digit of the first byte.
 pub first_bit : (w : List ℕ) → get_or w 0 0 < 256 → leb 128 (get_or w 0 0) ≡ bit_at w 0

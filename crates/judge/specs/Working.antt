@@ -2,7 +2,6 @@
 -- Assumes nothing: these are definitions.
 use Rattle.std.specs.Prelude.{ℕ, ◌+◌, ◌-◌, ◌*◌, ◌<◌, ◌≤◌, ◌≡◌, Bool, false, not, ◌&&◌, List, [], ◌∷◌, length, get_or, drop, ltb}
 use Rattle.std.proofs.Math.Bool.{decide}
-use Rattle.std.specs.Int.Bits.{bit_and}
 use Rattle.coding.specs.Number.{pick}
 use Rattle.coding.specs.Room.{over}
 use Rattle.judge.specs.Judging.{position_bytes}
@@ -27,6 +26,20 @@ use Rattle.judge.specs.declared.Tally.{Tally}
 -- Two tests agree at n positions; so a row's bits may agree with a test.
 abbrev pub Same : ℕ → (ℕ → Bool) → (ℕ → Bool) → Type 0
 Same n f g = (p : ℕ) → p < n → f p ≡ g p
+
+-- A work has room for so many rows of a trace's positions; what lies behind its first row; and that row's bits agree with a test.
+abbrev pub HasRows : ℕ → List ℕ → List ℕ → Type 0
+HasRows rows trace work = rows * row_of (positions trace) ≤ length work
+
+abbrev pub behind : List ℕ → List ℕ → List ℕ
+behind trace work = drop (row_of (positions trace)) work
+
+abbrev pub IsRow : List ℕ → List ℕ → (ℕ → Bool) → Type 0
+IsRow trace work f = Same (positions trace) (bit_at work) f
+
+-- The first row of the work v is the test f, and what lies behind it is as in w.
+abbrev pub Became : List ℕ → (ℕ → Bool) → List ℕ → List ℕ → Type 0
+Became trace f w v = IsRow trace v f × (behind trace v ≡ behind trace w)
 
 -- Whether position p of the trace has this phase.
 abbrev pub is_at : List ℕ → Phase → ℕ → Bool
@@ -97,10 +110,6 @@ pub record Tallied (trace : List ℕ) (row : ℕ → Bool) (work : List ℕ) (r 
 abbrev pub Tallies : Walked → List ℕ → ℕ → List ℕ → Tally → Type 0
 Tallies (walked f next) trace start work r = Tallied trace (judge (trace_of trace start) f) work r
 Tallies lost trace start work r = Unit
-
--- A byte of the findings' row: the Input positions at which the requirement's row has no bit.
-unfoldable pub failing_byte : ℕ → ℕ → ℕ
-failing_byte row inputs = bit_and (255 - row) inputs
 
 -- The positions of a row's bits below n, ascending.
 abbrev pub listed : (ℕ → Bool) → ℕ → List ℕ

@@ -6,57 +6,34 @@ ghost use Rattle.bits.specs.Bits.{bit_at, count_b};
 ghost use Rattle.bits.specs.Rows.{row_of};
 ghost use Rattle.lasso.specs.Bytes.{positions};
 ghost use Rattle.judge.specs.Judging.{position_bytes};
-ghost use Rattle.judge.specs.Working.{Same, Room, Marked, failing, failing_byte, listed, PutPosition, ListsByte};
+ghost use Rattle.judge.specs.Working.{Same, HasRows, IsRow, failing, listed, PutPosition, ListsByte};
 
+use crate::operators::MarkedTrace;
 use crate::rows;
-
-// A byte of the findings' row: Input, and not the requirement.
-fn failing_byte(row: u8, inputs: u8) -> u8
-    ensures { result ≡ failing_byte row inputs }
-{
-    (255 - row) & inputs
-}
-
-// Each byte of the row becomes a byte of the findings' row.
-fn fail_row(inputs: &[u8], work: &mut [u8], n: usize)
-    requires { (n ≤ length inputs.now) × (n ≤ length work.old) }
-    ensures { (p : ℕ) → p < 8 * n → bit_at work.new p ≡ (bit_at inputs.now p && not (bit_at work.old p)) }
-{
-    let mut i = 0;
-    while i < n {
-        work[i] = failing_byte(work[i], inputs[i]);
-        i += 1;
-    }
-}
 
 // Nothing behind the last position.
 fn clear_behind(work: &mut [u8], n: usize)
     requires { (0 < n) × (n ≤ 4096) × (row_of n ≤ length work.old) }
-    ensures { Same n (bit_at work.new) (bit_at work.old) × ((p : ℕ) → n ≤ p → p < 8 * row_of n → bit_at work.new p ≡ false) }
+    ensures { Same n (bit_at work.new) (bit_at work.old)
+        × ((p : ℕ) → n ≤ p → p < 8 * row_of n → bit_at work.new p ≡ false) }
 {
     let row = (n + 7) / 8;
-    let i = row - 1;
     let behind = rows::low(8 * row - n);
-    let x = work[i];
-    work[i] = x & (255 - behind);
+    work[row - 1] &= !behind;
 }
 
-// The first row becomes the findings' row, with nothing behind the last position. The row of the phase Input is the first of the marks.
-pub fn keep_failing(trace: &[u8], start: usize, marks: &[u8], work: &mut [u8])
-    requires { Room 1 trace.now start work.old × Marked trace.now marks.now }
-    ensures { Same (positions trace.now) (bit_at work.new) (failing trace.now (bit_at work.old))
-        × ((p : ℕ) → positions trace.now ≤ p → p < 8 * row_of (positions trace.now) → bit_at work.new p ≡ false) }
+// The first row becomes the findings' row, with nothing behind the last position. The row of the phase Input is the
+// first of the marks.
+pub fn keep_failing(marked: &MarkedTrace, work: &mut [u8])
+    requires { HasRows 1 marked.now.trace.now work.old }
+    ensures { IsRow marked.now.trace.now work.new (failing marked.now.trace.now (bit_at work.old))
+        × ((p : ℕ) → positions marked.now.trace.now ≤ p → p < 8 * row_of (positions marked.now.trace.now)
+        → bit_at work.new p ≡ false) }
 {
-    let n = trace.len() / 5;
-    fail_row(marks, work, (n + 7) / 8);
-    clear_behind(work, n);
-}
-
-// The language's own count of the ones of a byte.
-fn ones_of(x: u8) -> usize
-    ensures { (result ≡ ones x) × (result ≤ 8) }
-{
-    u8::count_ones(x) as usize
+    let row = marked.row();
+    let failing = |holds: u8, input: u8| !holds & input;
+    rows::with_each(&mut work[..row], marked.marks, failing);
+    clear_behind(work, marked.positions());
 }
 
 // How many bits of a row are set.
@@ -64,13 +41,7 @@ pub fn count_row(row: &[u8]) -> usize
     requires { length row.now ≤ 512 }
     ensures { result ≡ count_b (bit_at row.now) (8 * length row.now) }
 {
-    let mut sum: usize = 0;
-    let mut i: usize = 0;
-    while i < row.len() {
-        sum += ones_of(row[i]);
-        i += 1;
-    }
-    sum
+    row.iter().map(|x| x.count_ones() as usize).sum()
 }
 
 // Puts a position into the list, low byte first, where there is room for both of its bytes. The place after it.
@@ -93,12 +64,10 @@ fn list_byte(row: &[u8], i: usize, list: &mut [u8], place: usize) -> usize
 {
     let x = row[i];
     let mut at = place;
-    let mut k: usize = 0;
-    while k < 8 {
+    for k in 0..8 {
         if rows::bit(x, 7 - k) {
             at = put_position(8 * i + k, list, at);
         }
-        k += 1;
     }
     at
 }
@@ -108,13 +77,11 @@ pub fn list_row(row: &[u8], list: &mut [u8])
     requires { (length row.now ≤ 512) × (2 * count_b (bit_at row.now) (8 * length row.now) ≤ length list.old) }
     ensures { list.new ≡ over list.old 0 (position_bytes (listed (bit_at row.now) (8 * length row.now))) }
 {
-    let mut at: usize = 0;
-    let mut i: usize = 0;
-    while i < row.len() {
-        if row[i] != 0 {
+    let mut at = 0;
+    for (i, x) in row.iter().enumerate() {
+        if *x != 0 {
             at = list_byte(row, i, list, at);
         }
-        i += 1;
     }
 }
 
@@ -122,9 +89,5 @@ pub fn list_row(row: &[u8], list: &mut [u8])
 pub fn clear(work: &mut [u8])
     ensures { work.new ≡ replicate (length work.old) 0 }
 {
-    let mut i: usize = 0;
-    while i < work.len() {
-        work[i] = 0;
-        i += 1;
-    }
+    work.fill(0);
 }

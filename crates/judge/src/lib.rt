@@ -13,6 +13,7 @@ ghost use Rattle.judge.specs.Judging.{checks_of, Judges};
 ghost use Rattle.judge.specs.Working.{Room, Tallies};
 
 use coding::{Answer, Cause};
+use operators::MarkedTrace;
 use requirement::{Checked, Kind};
 
 // Room for the rows of the three phases.
@@ -46,11 +47,15 @@ fn judge_rows(
 {
     let mut marks = [0u8; MARKS];
     rows::fill_marks(trace, &mut marks);
-    tree::judge_node(kind, code, 0, depth, trace, start, &marks, work);
+    let marked = MarkedTrace {
+        trace: trace,
+        start: start,
+        marks: &marks,
+    };
+    tree::judge_node(kind, code, 0, depth, &marked, work);
     let holds = work[0] >= 128;
-    findings::keep_failing(trace, start, &marks, work);
-    let row = (trace.len() / 5 + 7) / 8;
-    let count = findings::count_row(&work[0..row]);
+    findings::keep_failing(&marked, work);
+    let count = findings::count_row(&work[..marked.row()]);
     Tally {
         holds: holds,
         count: count,

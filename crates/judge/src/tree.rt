@@ -1,9 +1,11 @@
-// The recursion over a requirement's nodes: operands are judged one level less deep, the second in what lies behind the first one's row.
+// The recursion over a requirement's nodes: operands are judged one level less deep, the second in what lies behind
+// the first one's row.
 ghost use Rattle.std.specs.Prelude.{suc};
 ghost use Rattle.requirement.specs.Walking.{walk_at, over_one, over_two};
-ghost use Rattle.judge.specs.Working.{Room, Marked, Rowed};
+ghost use Rattle.judge.specs.Working.{HasRows, Rowed};
 
-use crate::{operators, rows};
+use crate::operators::MarkedTrace;
+use crate::rows;
 use requirement::{Kind, Node, NodeRead, One, Two};
 
 // The row of the node whose code begins at `at`, in the first row of `work`. The place after its code.
@@ -13,13 +15,11 @@ pub fn judge_node(
     code: &[u8],
     at: usize,
     depth: u16,
-    trace: &[u8],
-    start: usize,
-    marks: &[u8],
+    marked: &MarkedTrace,
     work: &mut [u8],
 ) -> usize
-    requires { Room depth trace.now start work.old × Marked trace.now marks.now }
-    ensures { Rowed (walk_at kind depth code.now at) trace.now start work.new result }
+    requires { HasRows depth marked.now.trace.now work.old }
+    ensures { Rowed (walk_at kind depth code.now at) marked.now.trace.now marked.now.start work.new result }
 {
     if depth == 0 {
         return at;
@@ -29,19 +29,15 @@ pub fn judge_node(
         NodeRead::Fault(_, _) => at,
         NodeRead::Found(node, next) => match node {
             Node::Atom(k) => {
-                rows::fill_atom(trace, k as usize, work);
+                rows::fill_atom(marked.trace, k as usize, work);
                 next
             }
             Node::Mark(mark) => {
-                operators::fill_phase(trace, marks, mark, work);
+                marked.fill_phase(mark, work);
                 next
             }
-            Node::OverOne(operator) => judge_one(
-                operator, kind, code, next, below, trace, start, marks, work,
-            ),
-            Node::OverTwo(operator) => judge_two(
-                operator, kind, code, next, below, trace, start, marks, work,
-            ),
+            Node::OverOne(operator) => judge_one(operator, kind, code, next, below, marked, work),
+            Node::OverTwo(operator) => judge_two(operator, kind, code, next, below, marked, work),
         },
     }
 }
@@ -54,19 +50,18 @@ fn judge_one(
     code: &[u8],
     at: usize,
     depth: u16,
-    trace: &[u8],
-    start: usize,
-    marks: &[u8],
+    marked: &MarkedTrace,
     work: &mut [u8],
 ) -> usize
-    requires { Room (suc depth) trace.now start work.old × Marked trace.now marks.now }
-    ensures { Rowed (over_one operator (walk_at kind depth code.now at)) trace.now start work.new result }
+    requires { HasRows (suc depth) marked.now.trace.now work.old }
+    ensures { Rowed (over_one operator (walk_at kind depth code.now at)) marked.now.trace.now marked.now.start
+        work.new result }
 {
     if depth == 0 {
         return at;
     }
-    let next = judge_node(kind, code, at, depth, trace, start, marks, work);
-    operators::apply_one(operator, trace, start, marks, work);
+    let next = judge_node(kind, code, at, depth, marked, work);
+    marked.apply_one(operator, work);
     next
 }
 
@@ -78,30 +73,19 @@ fn judge_two(
     code: &[u8],
     at: usize,
     depth: u16,
-    trace: &[u8],
-    start: usize,
-    marks: &[u8],
+    marked: &MarkedTrace,
     work: &mut [u8],
 ) -> usize
-    requires { Room (suc depth) trace.now start work.old × Marked trace.now marks.now }
+    requires { HasRows (suc depth) marked.now.trace.now work.old }
     ensures { Rowed (over_two operator (λ next. walk_at kind depth code.now next) (walk_at kind depth code.now at))
-        trace.now start work.new result }
+        marked.now.trace.now marked.now.start work.new result }
 {
     if depth == 0 {
         return at;
     }
-    let row = (trace.len() / 5 + 7) / 8;
-    let second = judge_node(kind, code, at, depth, trace, start, marks, work);
-    let next = judge_node(
-        kind,
-        code,
-        second,
-        depth,
-        trace,
-        start,
-        marks,
-        &mut work[row..],
-    );
-    operators::apply_two(operator, trace, start, marks, work);
+    let row = marked.row();
+    let second = judge_node(kind, code, at, depth, marked, work);
+    let next = judge_node(kind, code, second, depth, marked, &mut work[row..]);
+    marked.apply_two(operator, work);
     next
 }

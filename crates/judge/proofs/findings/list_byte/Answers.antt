@@ -17,9 +17,6 @@ loop-k-preserved c =
       | else-bit w ↦ rw (w.at-is, w.list-is) (byte_skip h (omega arith) (e ∙ w.if-bit.false))
     ]
 
-pub shape_of-list : goal.shape_of-list
-shape_of-list c = c.loop-k.invariant.size
-
 pub returns : goal.returns
 returns c =
     let l = c.loop-k in

@@ -1,4 +1,4 @@
-use Prim.Native.Nat.{◌-◌, ◌*◌, ◌≤◌}
+use Prim.Native.Nat.{◌*◌}
 use mathlib.Core.Bool.{not, ◌||◌}
 use lib.ListN.{drop}
 use Rattle.bits.specs.Bits.{bit_at}
@@ -8,7 +8,4 @@ use Rattle.judge.proofs.rows.fill_neither.Given as goal
 
 abbrev pub invariant-loop-i : goal.invariant-loop-i
 invariant-loop-i l =
-    (l.i ≤ longest_row) × Made (λ p. not (bit_at (drop longest_row l.initial.marks) p || bit_at (drop (2 * longest_row) l.initial.marks) p)) l.initial.marks l.i l.marks
-
-abbrev pub decreases-loop-i : goal.decreases-loop-i
-decreases-loop-i l = longest_row - l.i
+    Made (λ p. not (bit_at (drop longest_row l.initial.marks) p || bit_at (drop (2 * longest_row) l.initial.marks) p)) l.initial.marks l.i l.marks

@@ -1,18 +1,13 @@
-use mathlib.Core.Path.{refl}
+use Prim.Native.Nat.{◌+◌, ◌-◌}
 use native.Mathlib.Omega.{arith}
-use lib.ListN.{length-set}
+use mathlib.Core.Path.{◌≡◌}
 use Rattle.bits.specs.Rows.{put_word}
+use Rattle.judge.proofs.Bytewise.{put_four}
 use Rattle.judge.proofs.rows.put_word.Goals as goal
-
-pub bounds-work-i-2 : goal.bounds-work-i-2
-bounds-work-i-2 c = simp length-set (omega arith)
-
-pub bounds-work-i-3 : goal.bounds-work-i-3
-bounds-work-i-3 c = simp length-set (omega arith)
-
-pub bounds-work-i-4 : goal.bounds-work-i-4
-bounds-work-i-4 c = simp length-set (omega arith)
 
 pub returns : goal.returns
 unfolding put_word
-returns c = refl
+returns c =
+    let a = c.args in
+    let four : a.i + 4 - a.i ≡ 4 = omega arith in
+    rw (four, c.copy_from_slice.ensures.after, c.to_be_bytes.ensures) (put_four a.i a.work.now _ _ _ _ c.requires.0)

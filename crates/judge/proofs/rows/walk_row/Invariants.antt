@@ -1,9 +1,9 @@
-use Prim.Native.Nat.{◌≤◌}
+use Prim.Native.Nat.{◌+◌, ◌*◌}
 use Rattle.bits.proofs.Walks.{Carried, Down}
 use Rattle.judge.proofs.rows.walk_row.Given as goal
 
-abbrev pub invariant-loop-i : goal.invariant-loop-i
-invariant-loop-i l = (l.i ≤ l.row) × Carried l.initial.work l.row l.last l.i l.c × Down l.initial.work l.row l.last l.i l.work
+abbrev pub invariant-loop-k : goal.invariant-loop-k
+invariant-loop-k l = Carried l.fn.work l.row l.last (l.head + 4 * l.k) l.carry × Down l.fn.work l.row l.last (l.head + 4 * l.k) l.work
 
-abbrev pub decreases-loop-i : goal.decreases-loop-i
-decreases-loop-i l = l.i
+abbrev pub invariant-loop-i : goal.invariant-loop-i
+invariant-loop-i l = Carried l.fn.work l.row l.last l.i l.carry × Down l.fn.work l.row l.last l.i l.work
