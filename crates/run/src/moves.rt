@@ -1,10 +1,10 @@
 // One move of the run: a read, an action or a write.
 ghost use Rattle.std.specs.Prelude.{◌≡◌, ◌+◌, ◌<◌};
 ghost use Rattle.run.specs.Working.Index.{Indexed};
-ghost use Rattle.run.specs.Moves.{to, stops, active, step_of, used_after, after_action, too_long, unruled, before, action_move, after_read, after_write};
+ghost use Rattle.run.specs.Moves.{active, step_of, used_after, too_long, unruled, action_move};
 ghost use Rattle.run.specs.Running.{recorded_move};
 
-use crate::{Going, Machine, Moved, places};
+use crate::{Machine, Moved, places};
 use coding::Cause;
 use controller::{Acted, Action, Controller, Outcome};
 use requirement::Phase;
@@ -12,37 +12,11 @@ use requirement::Phase;
 // The most actions of a turn.
 const LONGEST_TURN: u16 = 64;
 
-fn to(m: Machine) -> Moved
-    ensures { result ≡ to m }
-{
-    let going = Going::On;
-    Moved {
-        going: going,
-        machine: m,
-    }
-}
-
-fn stops(cause: Cause, m: Machine) -> Moved
-    ensures { result ≡ stops cause m }
-{
-    let going = Going::Stopped(cause);
-    Moved {
-        going: going,
-        machine: m,
-    }
-}
-
 // Whether a functional state is active.
 fn active(f: u16) -> bool
     ensures { result ≡ active f }
 {
-    if f == 0 {
-        return false;
-    }
-    if f == ranges::ERR_STATE {
-        return false;
-    }
-    true
+    f != 0 && f != ranges::ERR_STATE
 }
 
 // The action of process i.
@@ -77,49 +51,23 @@ fn used_after(outcome: Outcome, used: u16) -> u16
     }
 }
 
-// The machine after an action.
-fn after_action(m: Machine, outcome: Outcome, c: Controller) -> Machine
-    requires { m.used < 65535 }
-    ensures { result ≡ after_action m outcome c }
-{
-    let phase = Phase::Exe;
-    let scan = m.scan;
-    let used = used_after(outcome, m.used);
-    Machine {
-        phase: phase,
-        state: c,
-        used: used,
-        scan: scan,
-    }
-}
-
 // Whether a turn of so many actions is at its end.
-fn too_long(used: u16) -> Going
+fn too_long(used: u16) -> Option<Cause>
     ensures { result ≡ too_long used }
 {
     if used < LONGEST_TURN {
-        return Going::On;
+        return None;
     }
-    Going::Stopped(Cause::LongTurn)
+    Some(Cause::LongTurn)
 }
 
 // Whether there is no rule for an action.
-fn unruled(outcome: Outcome) -> Going
+fn unruled(outcome: Outcome) -> Option<Cause>
     ensures { result ≡ unruled outcome }
 {
     match outcome {
-        Outcome::NoRule => Going::Stopped(Cause::NoRule),
-        _ => Going::On,
-    }
-}
-
-// Of two looks the first that stops the run.
-fn before(first: Going, later: Going) -> Going
-    ensures { result ≡ before first later }
-{
-    match first {
-        Going::Stopped(cause) => Going::Stopped(cause),
-        Going::On => later,
+        Outcome::NoRule => Some(Cause::NoRule),
+        Outcome::Stays | Outcome::Passes => None,
     }
 }
 
@@ -128,44 +76,27 @@ fn action_move(table: &[u16], places: &[usize], m: Machine) -> Moved
     requires { Indexed table.now places.now }
     ensures { result ≡ action_move table.now m }
 {
-    let c = m.state;
-    let i = c.counter;
-    let used = m.used;
-    let acted = step(table, places, i, c);
+    let acted = step(table, places, m.state.counter, m.state);
     let outcome = acted.outcome;
-    let state = acted.state;
-    let long = too_long(used);
-    let missing = unruled(outcome);
-    match before(long, missing) {
-        Going::Stopped(cause) => stops(cause, m),
-        Going::On => to(after_action(m, outcome, state)),
-    }
-}
-
-fn after_read(m: Machine, c: Controller) -> Machine
-    ensures { result ≡ after_read m c }
-{
-    let phase = Phase::Input;
-    let scan = m.scan;
-    Machine {
-        phase: phase,
-        state: c,
-        used: 0,
-        scan: scan,
-    }
-}
-
-fn after_write(m: Machine, c: Controller) -> Machine
-    requires { m.scan < 65535 }
-    ensures { result ≡ after_write m c }
-{
-    let phase = Phase::Output;
-    let scan = m.scan;
-    Machine {
-        phase: phase,
-        state: c,
-        used: 0,
-        scan: scan + 1,
+    match too_long(m.used).or(unruled(outcome)) {
+        Some(cause) => Moved {
+            stopped: Some(cause),
+            machine: m,
+        },
+        None => {
+            let used = used_after(outcome, m.used);
+            let state = acted.state;
+            let machine = Machine {
+                phase: Phase::Exe,
+                state,
+                used,
+                ..m
+            };
+            Moved {
+                stopped: None,
+                machine,
+            }
+        }
     }
 }
 
@@ -175,13 +106,29 @@ pub fn make_move(table: &[u16], places: &[usize], inputs: &[u16], m: Machine) ->
     ensures { result ≡ recorded_move table.now inputs.now m }
 {
     let c = m.state;
-    let counter = c.counter;
-    let done = m.scan;
-    if counter == 0 {
-        return to(after_read(m, scan::read(table, inputs, done, c)));
+    if c.counter == 0 {
+        let machine = Machine {
+            phase: Phase::Input,
+            state: scan::read(table, inputs, m.scan, c),
+            used: 0,
+            ..m
+        };
+        return Moved {
+            stopped: None,
+            machine,
+        };
     }
-    if lookups::processes(table) < counter {
-        return to(after_write(m, scan::write(table, c)));
+    if lookups::processes(table) < c.counter {
+        let machine = Machine {
+            phase: Phase::Output,
+            state: scan::write(table, c),
+            used: 0,
+            scan: m.scan + 1,
+        };
+        return Moved {
+            stopped: None,
+            machine,
+        };
     }
     action_move(table, places, m)
 }

@@ -7,55 +7,16 @@ ghost use Rattle.run.specs.Working.Index.{Indexed};
 ghost use Rattle.run.specs.Working.Atoms.{LaidOut};
 ghost use Rattle.run.specs.Limits.{last_state};
 ghost use Rattle.run.specs.Moves.{begun};
-ghost use Rattle.run.specs.Running.{here, stopped_at, reached, turn_of, halted, closing, ran_of};
+ghost use Rattle.run.specs.Running.{reached, turn_of, halted, closing, ran_of};
 ghost use Rattle.run.specs.Trace.{path};
 ghost use Rattle.run.specs.Working.Walking.{Walked, cleared, cleared_by, Small};
 
-use crate::{Going, Machine, Ran, Reached, atoms, moves, places};
+use crate::{Machine, Ran, Reached, atoms, moves, places};
 use coding::Cause;
 use requirement::Phase;
 
 // The last state that may arise.
 const LAST_STATE: usize = 4096;
-
-fn here(n: usize, m: Machine) -> Reached
-    ensures { result ≡ here n m }
-{
-    let going = Going::On;
-    Reached {
-        going: going,
-        number: n,
-        machine: m,
-    }
-}
-
-fn stopped_at(cause: Cause, n: usize, m: Machine) -> Reached
-    ensures { result ≡ stopped_at cause n m }
-{
-    let going = Going::Stopped(cause);
-    Reached {
-        going: going,
-        number: n,
-        machine: m,
-    }
-}
-
-// Whether fewer than k scans are done.
-fn before(m: Machine, k: u16) -> bool
-    ensures { result ≡ ltb m.scan k }
-{
-    let scan = m.scan;
-    scan < k
-}
-
-// Writes the state that is left, of which the atoms are known.
-fn leave(m: Machine, atoms: [u8; 4], n: usize, trace: &mut [u8])
-    requires { n ≤ last_state }
-    ensures { trace.new ≡ over trace.old (n * 5) (phase_number m.phase ∷ atoms) }
-{
-    let phase = m.phase;
-    scan::put_position(phase, atoms, n * 5, trace);
-}
 
 // The state of the start.
 fn begin() -> Machine
@@ -89,28 +50,35 @@ fn run_to(
 {
     let mut n = from;
     let mut m = machine;
-    let first = machine.state;
-    let mut atoms = atoms::atoms_of(laid, first);
-    while before(m, k) {
+    let mut atoms = atoms::atoms_of(laid, m.state);
+    while m.scan < k {
         let moved = moves::make_move(table, places, inputs, m);
-        let going = moved.going;
-        match going {
-            Going::Stopped(cause) => return stopped_at(cause, n, m),
-            Going::On => {}
+        if let Some(cause) = moved.stopped {
+            return Reached {
+                stopped: Some(cause),
+                number: n,
+                machine: m,
+            };
         }
         if LAST_STATE <= n {
-            return stopped_at(Cause::LongRun, n, m);
+            return Reached {
+                stopped: Some(Cause::LongRun),
+                number: n,
+                machine: m,
+            };
         }
-        leave(m, atoms, n, trace);
-        let next = moved.machine;
-        let old = m.state;
-        let new = next.state;
-        let then = atoms::atoms_after(laid, atoms, old, new);
+        // the state that is left, of which the atoms are known
+        scan::put_position(m.phase, atoms, n * 5, trace);
+        let then = atoms::atoms_after(laid, atoms, m.state, moved.machine.state);
         atoms = then;
-        m = next;
+        m = moved.machine;
         n += 1;
     }
-    here(n, m)
+    Reached {
+        stopped: None,
+        number: n,
+        machine: m,
+    }
 }
 
 // Whose turn it was, for a refusal of an action.
@@ -120,8 +88,7 @@ fn turn_of(cause: Cause, m: Machine) -> u16
     let c = m.state;
     let counter = c.counter;
     match cause {
-        Cause::NoRule => counter,
-        Cause::LongTurn => counter,
+        Cause::NoRule | Cause::LongTurn => counter,
         _ => 0,
     }
 }
@@ -161,20 +128,23 @@ pub fn walk(table: &[u16], inputs: &[u16], trace: &mut [u8]) -> Ran
     atoms::lay_out(table, &mut laid);
     let b = lookups::return_scan(inputs);
     let back = run_to(table, &places, &laid, inputs, b, 0, begin(), trace);
-    let going = back.going;
-    let first = back.machine;
-    let start = back.number;
-    match going {
-        Going::Stopped(cause) => return halted(cause, first),
-        Going::On => {}
+    if let Some(cause) = back.stopped {
+        return halted(cause, back.machine);
     }
     let q = lookups::scans(inputs);
-    let last = run_to(table, &places, &laid, inputs, q, start, first, trace);
-    let going_on = last.going;
-    let end = last.machine;
-    match going_on {
-        Going::Stopped(cause) => halted(cause, end),
-        Going::On => close(q, back, last),
+    let last = run_to(
+        table,
+        &places,
+        &laid,
+        inputs,
+        q,
+        back.number,
+        back.machine,
+        trace,
+    );
+    match last.stopped {
+        Some(cause) => halted(cause, last.machine),
+        None => close(q, back, last),
     }
 }
 

@@ -1,25 +1,19 @@
-use native.Mathlib.Omega.{arith}
 use mathlib.Core.Path.{sym, ◌∙◌}
+use native.Mathlib.Omega.{arith}
 use Rattle.run.proofs.Steps.{short, stopped_by, moved_by}
 use Rattle.run.proofs.moves.action_move.Goals as goal
 
-pub after_action-requires : goal.after_action-requires
-after_action-requires c =
-    let h = short _ _ c.unruled-missing.result _ c.too_long-long.ensures c.before-2.ensures
-    c.in-On.is in
-    omega (arith, h)
+pub used_after-used-requires : goal.used_after-used-requires
+used_after-used-requires c =
+    let h = short c.args.m.used c.too_long.result c.unruled.result c.or.result c.too_long.ensures c.or.ensures c.in-None.is in omega arith
 
-pub returns-in-Stopped : goal.returns-in-Stopped
-returns-in-Stopped c =
-    c.stops.ensures
-    ∙ sym
-    (stopped_by _ _ _ c.step-acted.ensures _ _ _ c.too_long-long.ensures c.unruled-missing.ensures
-    c.before-2.ensures _ c.in-Stopped.is)
+pub returns-in-Some : goal.returns-in-Some
+returns-in-Some c =
+    sym
+    (stopped_by _ c.args.m _ c.step-acted.ensures c.too_long.result c.unruled.result c.or.result c.too_long.ensures c.unruled.ensures c.or.ensures _ c.in-Some.is)
 
-pub returns-in-On : goal.returns-in-On
-returns-in-On c =
-    c.to.ensures
-    ∙ rw c.after_action.ensures
+pub returns-in-None : goal.returns-in-None
+returns-in-None c =
+    rw c.used_after-used.ensures
     (sym
-    (moved_by _ _ _ c.step-acted.ensures _ _ _ c.too_long-long.ensures c.unruled-missing.ensures
-    c.before-2.ensures c.in-On.is))
+    (moved_by _ c.args.m _ c.step-acted.ensures c.too_long.result c.unruled.result c.or.result c.too_long.ensures c.unruled.ensures c.or.ensures c.in-None.is))

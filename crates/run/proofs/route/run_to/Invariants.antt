@@ -3,9 +3,9 @@ use Rattle.run.specs.Limits.{last_state}
 use Rattle.run.proofs.Onward.{Left, Known}
 use Rattle.run.proofs.route.run_to.Given as goal
 
-abbrev pub invariant-loop-atoms : goal.invariant-loop-atoms
-invariant-loop-atoms l =
+abbrev pub invariant-loop-m : goal.invariant-loop-m
+invariant-loop-m l =
     Left l.table l.inputs l.k l.initial.n l.initial.m l.initial.trace l.n l.m l.trace × Known l.table l.m l.atoms
 
-abbrev pub decreases-loop-atoms : goal.decreases-loop-atoms
-decreases-loop-atoms l = last_state - l.n
+abbrev pub decreases-loop-m : goal.decreases-loop-m
+decreases-loop-m l = last_state - l.n
