@@ -3,11 +3,9 @@
 use Prim.Native.Nat.{ℕ, ◌<◌}
 use mathlib.Core.Path.{◌≡◌, refl}
 use mathlib.Core.Bool.{Bool, true, false}
-use mathlib.Core.List.{List, [], ◌∷◌}
+use mathlib.Core.List.{List}
 use lib.Dec.{ltb}
 use borrow.Author.Tests.{eq-eqb, ne_eqb, ltb-true}
-use denote.Enum.Declared.{tag_of}
-use types.Run.{OneOf, miss}
 use Rattle.std.specs.Prelude.{Option, None, Some}
 use Rattle.std.specs.Option.{option_or}
 use Rattle.coding.specs.declared.Cause.{Cause}
@@ -23,9 +21,6 @@ use Rattle.controller.specs.declared.Controller.{Controller}
 use Rattle.controller.specs.declared.Action.{Action}
 use Rattle.controller.specs.declared.Action.TheVariants.{Skip, End}
 use Rattle.controller.specs.declared.Acted.{Acted}
-use Rattle.controller.specs.declared.Outcome.{Outcome}
-use Rattle.controller.specs.declared.Outcome.TheVariants.{Stays, Passes, NoRule}
-use Rattle.controller.specs.contracts.Outcome as outcome
 use Rattle.scan.specs.Guards.{next_of}
 use Rattle.run.specs.Limits.{longest_turn}
 use Rattle.run.specs.Moves.{to, stops, active, step_of, after_action, too_long, unruled, before, action_move}

@@ -2,6 +2,8 @@
 #![tactic(auto)]
 
 mod atoms;
+mod course;
+mod laid;
 mod moves;
 mod places;
 mod route;
@@ -34,14 +36,16 @@ pub struct Machine {
     pub scan: u16,
 }
 
-// What one move comes to: what stops the run, if anything does, and the machine after the move, or before a move that stops it.
+// What one move comes to: what stops the run, if anything does, and the machine after the move, or, where it stops the
+// run, before it.
 #[derive(Clone, Copy)]
 pub struct Moved {
     pub stopped: Option<Cause>,
     pub machine: Machine,
 }
 
-// Where a run has come: what stopped it, if anything did, and the state of this number, wanted or the last before the stop.
+// Where a run has come: what stopped it, if anything did, and the state of this number, wanted or the last before the
+// stop.
 #[derive(Clone, Copy)]
 pub struct Reached {
     pub stopped: Option<Cause>,

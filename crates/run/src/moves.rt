@@ -1,10 +1,10 @@
 // One move of the run: a read, an action or a write.
 ghost use Rattle.std.specs.Prelude.{◌≡◌, ◌+◌, ◌<◌};
-ghost use Rattle.run.specs.Working.Index.{Indexed};
 ghost use Rattle.run.specs.Moves.{active, step_of, used_after, too_long, unruled, action_move};
 ghost use Rattle.run.specs.Running.{recorded_move};
 
-use crate::{Machine, Moved, places};
+use crate::course::Course;
+use crate::{Machine, Moved};
 use coding::Cause;
 use controller::{Acted, Action, Controller, Outcome};
 use requirement::Phase;
@@ -17,26 +17,6 @@ fn active(f: u16) -> bool
     ensures { result ≡ active f }
 {
     f != 0 && f != ranges::ERR_STATE
-}
-
-// The action of process i.
-fn step(table: &[u16], places: &[usize], i: u16, c: Controller) -> Acted
-    requires { Indexed table.now places.now }
-    ensures { result ≡ step_of table.now i c }
-{
-    let p = c.process(i);
-    let f = p.state;
-    if !active(f) {
-        return c.act(i, Action::Skip, 0);
-    }
-    let a = p.action;
-    if a == 0 {
-        return c.act(i, Action::End, 0);
-    }
-    let state = places::place_of(table, places, i, f);
-    let row = lookups::action_from(table, state, a);
-    let next = scan::next_of(table, c, row);
-    c.act(i, controller::action_of(row.op, row.x, row.y), next)
 }
 
 // How many actions of the turn are done after one more: none of the next turn, where it passes.
@@ -71,64 +51,84 @@ fn unruled(outcome: Outcome) -> Option<Cause>
     }
 }
 
-// An action of the process whose turn it is. A turn that is too long is looked for before an action that has no rule.
-fn action_move(table: &[u16], places: &[usize], m: Machine) -> Moved
-    requires { Indexed table.now places.now }
-    ensures { result ≡ action_move table.now m }
-{
-    let acted = step(table, places, m.state.counter, m.state);
-    let outcome = acted.outcome;
-    match too_long(m.used).or(unruled(outcome)) {
-        Some(cause) => Moved {
-            stopped: Some(cause),
-            machine: m,
-        },
-        None => {
-            let used = used_after(outcome, m.used);
-            let state = acted.state;
-            let machine = Machine {
-                phase: Phase::Exe,
-                state,
-                used,
-                ..m
-            };
-            Moved {
-                stopped: None,
-                machine,
+impl Course<'_> {
+    // The action of process i.
+    fn step(&self, i: u16, c: Controller) -> Acted
+        ensures { result ≡ step_of self.now.table.now i c }
+    {
+        let p = c.process(i);
+        let f = p.state;
+        if !active(f) {
+            return c.act(i, Action::Skip, 0);
+        }
+        let a = p.action;
+        if a == 0 {
+            return c.act(i, Action::End, 0);
+        }
+        let state = self.place_of(i, f);
+        let row = lookups::action_from(self.table, state, a);
+        let next = scan::next_of(self.table, c, row);
+        c.act(i, controller::action_of(row.op, row.x, row.y), next)
+    }
+
+    // An action of the process whose turn it is. A turn that is too long is looked for before an action that has no rule.
+    fn action_move(&self, m: Machine) -> Moved
+        ensures { result ≡ action_move self.now.table.now m }
+    {
+        let acted = self.step(m.state.counter, m.state);
+        let outcome = acted.outcome;
+        match too_long(m.used).or(unruled(outcome)) {
+            Some(cause) => Moved {
+                stopped: Some(cause),
+                machine: m,
+            },
+            None => {
+                let used = used_after(outcome, m.used);
+                let state = acted.state;
+                let machine = Machine {
+                    phase: Phase::Exe,
+                    state,
+                    used,
+                    ..m
+                };
+                Moved {
+                    stopped: None,
+                    machine,
+                }
             }
         }
     }
-}
 
-// The move that the counter tells.
-pub fn make_move(table: &[u16], places: &[usize], inputs: &[u16], m: Machine) -> Moved
-    requires { Indexed table.now places.now × (m.scan < 65535) }
-    ensures { result ≡ recorded_move table.now inputs.now m }
-{
-    let c = m.state;
-    if c.counter == 0 {
-        let machine = Machine {
-            phase: Phase::Input,
-            state: scan::read(table, inputs, m.scan, c),
-            used: 0,
-            ..m
-        };
-        return Moved {
-            stopped: None,
-            machine,
-        };
+    // The move that the counter tells.
+    pub fn make_move(&self, m: Machine) -> Moved
+        requires { m.scan < 65535 }
+        ensures { result ≡ recorded_move self.now.table.now self.now.inputs.now m }
+    {
+        let c = m.state;
+        if c.counter == 0 {
+            let machine = Machine {
+                phase: Phase::Input,
+                state: scan::read(self.table, self.inputs, m.scan, c),
+                used: 0,
+                ..m
+            };
+            return Moved {
+                stopped: None,
+                machine,
+            };
+        }
+        if lookups::processes(self.table) < c.counter {
+            let machine = Machine {
+                phase: Phase::Output,
+                state: scan::write(self.table, c),
+                used: 0,
+                scan: m.scan + 1,
+            };
+            return Moved {
+                stopped: None,
+                machine,
+            };
+        }
+        self.action_move(m)
     }
-    if lookups::processes(table) < c.counter {
-        let machine = Machine {
-            phase: Phase::Output,
-            state: scan::write(table, c),
-            used: 0,
-            scan: m.scan + 1,
-        };
-        return Moved {
-            stopped: None,
-            machine,
-        };
-    }
-    action_move(table, places, m)
 }

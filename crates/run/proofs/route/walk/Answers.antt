@@ -8,7 +8,7 @@ halted-requires c =
 
 pub returns-in-Some : goal.returns-in-Some
 returns-in-Some c =
-    rw c.halted.ensures
+    rw (← c.new-course.ensures.0, ← c.new-course.ensures.1, c.halted.ensures)
     (halts_first _ _ _ _ _ _ _ c.run_to-back.ensures c.return_scan-b.ensures c.begin.ensures _ c.in-Some.is)
 
 pub halted-requires-in-Some-stopped : goal.halted-requires-in-Some-stopped
@@ -18,12 +18,12 @@ halted-requires-in-Some-stopped c =
 
 pub returns-in-Some-stopped : goal.returns-in-Some-stopped
 returns-in-Some-stopped c =
-    rw c.halted-in-Some-stopped.ensures
+    rw (← c.new-course.ensures.0, ← c.new-course.ensures.1, c.halted-in-Some-stopped.ensures)
     (halts_later _ _ _ _ _ _ _ c.run_to-back.ensures _ _ _ c.run_to-last.ensures c.return_scan-b.ensures
     c.begin.ensures c.scans-q.ensures c.in_default.is _ c.in-Some-stopped.is)
 
 pub returns-in-None : goal.returns-in-None
 returns-in-None c =
-    rw c.close.ensures
+    rw (← c.new-course.ensures.0, ← c.new-course.ensures.1, c.close.ensures)
     (goes_through _ _ _ _ _ _ _ c.run_to-back.ensures _ _ _ c.run_to-last.ensures c.return_scan-b.ensures
     c.begin.ensures c.scans-q.ensures c.in_default.is c.in-None.is)

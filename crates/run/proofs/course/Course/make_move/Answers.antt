@@ -2,7 +2,7 @@ use native.Mathlib.Omega.{arith}
 use mathlib.Core.Path.{refl}
 use borrow.Author.Tests.{lt-ltb, le-ltb, eq-eqb, ne_eqb}
 use Rattle.run.specs.Moves.{move_of}
-use Rattle.run.proofs.moves.make_move.Goals as goal
+use Rattle.run.proofs.course.Course.make_move.Goals as goal
 
 pub returns-then-c-eq0 : goal.returns-then-c-eq0
 unfolding move_of

@@ -1,7 +1,7 @@
-use mathlib.Core.Path.{sym, ◌∙◌}
+use mathlib.Core.Path.{sym}
 use native.Mathlib.Omega.{arith}
 use Rattle.run.proofs.Steps.{short, stopped_by, moved_by}
-use Rattle.run.proofs.moves.action_move.Goals as goal
+use Rattle.run.proofs.course.Course.action_move.Goals as goal
 
 pub used_after-used-requires : goal.used_after-used-requires
 used_after-used-requires c =

@@ -1,5 +1,5 @@
 use Rattle.run.specs.Working.Atoms.{asked}
-use Rattle.run.proofs.atoms.asked.Goals as goal
+use Rattle.run.proofs.laid.Laid.holds.Goals as goal
 
 pub returns : goal.returns
 unfolding asked

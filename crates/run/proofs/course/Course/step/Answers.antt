@@ -1,6 +1,6 @@
 use mathlib.Core.Path.{◌∙◌, sym}
 use Rattle.run.proofs.Steps.{skips, ends, acts}
-use Rattle.run.proofs.moves.step.Goals as goal
+use Rattle.run.proofs.course.Course.step.Goals as goal
 
 pub returns-then-not-active : goal.returns-then-not-active
 returns-then-not-active c =
