@@ -6,13 +6,13 @@ use native.Mathlib.Nat.{eq-or-lt_of_le}
 use mathlib.Core.Path.{◌≡◌, refl, sym, ◌∙◌}
 use mathlib.Core.Logic.{◌⊎◌, inl, inr, ⊎_elim}
 use mathlib.Core.List.{List}
+use Rattle.std.specs.Prelude.{None}
 use Rattle.requirement.specs.declared.Phase.TheVariants.{Output}
 use Rattle.meaning.specs.Trace.{position}
 use Rattle.meaning.proofs.Walk.{step_inside, step_join, position_below, start as first-position}
 use Rattle.lookups.specs.Places.{scans_of, return_of}
 use Rattle.run.specs.Moves.{move_of}
 use Rattle.run.specs.Running.{recorded_move}
-use Rattle.run.specs.declared.Going.TheVariants.{On}
 use Rattle.run.specs.declared.Machine.{Machine}
 use Rattle.run.specs.declared.Moved.{Moved}
 use Rattle.endless.specs.Recorded.{state_at}
@@ -27,18 +27,18 @@ use Rattle.endless.proofs.Laps.{recorded, recorded_next, recorded_join}
 
 -- ---- two machines that differ in the scans done only, moved with the same inputs
 record Alike (k s : ℕ) (x y : Moved) : Type 0 where
-  going : y.going ≡ x.going
+  stopped : y.stopped ≡ x.stopped
   same : y.machine ≡ with_scan x.machine y.machine.scan
   scans : ((x.machine.scan ≡ k) × (y.machine.scan ≡ s)) ⊎ ((x.machine.scan ≡ k + 1) × (y.machine.scan ≡ s + 1))
 
 alike : (T I : List ℕ) (d : ℕ) (m : Machine) (s : ℕ) → Alike m.scan s (move_of T I d m) (move_of T I d (with_scan m s))
 alike T I d m s =
     by_move (Alike m.scan s) T I d m s
-    (λ h c k. record { going = refl; same = refl; scans = inl (refl, refl) })
-    (λ h c k. record { going = refl; same = refl; scans = inr (refl, refl) })
-    (λ h c k. record { going = refl; same = refl; scans = inl (refl, refl) })
-    (λ h c k. record { going = refl; same = refl; scans = inl (refl, refl) })
-    (λ cause. record { going = refl; same = refl; scans = inl (refl, refl) })
+    (λ h c k. record { stopped = refl; same = refl; scans = inl (refl, refl) })
+    (λ h c k. record { stopped = refl; same = refl; scans = inr (refl, refl) })
+    (λ h c k. record { stopped = refl; same = refl; scans = inl (refl, refl) })
+    (λ h c k. record { stopped = refl; same = refl; scans = inl (refl, refl) })
+    (λ cause. record { stopped = refl; same = refl; scans = inl (refl, refl) })
 
 -- At an Output no action is used, so two such machines with equal states are equal but for the scans.
 output_used : (m : Machine) → Fits m → m.phase ≡ Output → m.used ≡ 0
@@ -80,8 +80,8 @@ module _ {T I : List ℕ} {n start : ℕ} (h : Ended T I n start) where
   abbrev b : ℕ
   b = return_of I
 
-  pub agreeing_goes_on : {p : ℕ} {e : Machine} → p < n → Agrees T I p e → (endless_move T I e).going ≡ On
-  agreeing_goes_on {p} l a = (moved a).going ∙ moves_on h p l
+  pub agreeing_goes_on : {p : ℕ} {e : Machine} → p < n → Agrees T I p e → (endless_move T I e).stopped ≡ None
+  agreeing_goes_on {p} l a = (moved a).stopped ∙ moves_on h p l
 
   agree_first : Agrees T I 0 (endless_state T I 0)
   unfolding state_at endless_state

@@ -8,22 +8,22 @@ use mathlib.Core.Path.{◌≡◌, refl}
 use mathlib.Core.Logic.{◌⊎◌, ⊎_elim}
 use mathlib.Core.Bool.{true}
 use mathlib.Core.List.{List}
+use Rattle.std.specs.Prelude.{None}
 use Rattle.requirement.specs.declared.Phase.TheVariants.{Output}
 use Rattle.meaning.specs.Trace.{Follows}
 use Rattle.lookups.specs.Places.{scans_of, return_of}
 use Rattle.controller.specs.State.{start as start_of}
 use Rattle.run.specs.Running.{recorded_move}
-use Rattle.run.specs.declared.Going.TheVariants.{On}
 use Rattle.endless.specs.Recorded.{state_at}
 use Rattle.endless.proofs.States.{Arrived}
 use Rattle.endless.proofs.Phases.{Fits, Goes, goes}
 use Rattle.endless.proofs.Ended.{Ended}
 
 module _ {T I : List ℕ} {n start : ℕ} (h : Ended T I n start) where
-  pub moves_on : (j : ℕ) → j < n → (recorded_move T I (state_at T I j)).going ≡ On
+  pub moves_on : (j : ℕ) → j < n → (recorded_move T I (state_at T I j)).stopped ≡ None
   moves_on j l = go (dec_lt j start)
     where
-      go : Dec (j < start) → (recorded_move T I (state_at T I j)).going ≡ On
+      go : Dec (j < start) → (recorded_move T I (state_at T I j)).stopped ≡ None
       go (yes k) = h.back.on j (omega arith) k
       go (no k) = h.last.on j (omega arith) l
 

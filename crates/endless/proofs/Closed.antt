@@ -4,6 +4,7 @@
 use Prim.Native.Nat.{ℕ}
 use mathlib.Core.Path.{◌≡◌}
 use mathlib.Core.List.{List}
+use Rattle.std.specs.Prelude.{None}
 use Rattle.coding.specs.declared.Answer.TheVariants.{Count}
 use Rattle.meaning.specs.Trace.{endless}
 use Rattle.lookups.specs.Places.{scans_of, return_of}
@@ -11,7 +12,6 @@ use Rattle.lasso.specs.Bytes.{trace_of}
 use Rattle.lasso.specs.Checking.{check_trace}
 use Rattle.run.specs.Moves.{move_of}
 use Rattle.run.specs.Trace.{trace_bytes, numbers_in, run_of}
-use Rattle.run.specs.declared.Going.TheVariants.{On}
 use Rattle.run.specs.declared.Ran.TheVariants.{Closed}
 use Rattle.endless.specs.Unrolled.{recorded_scan, endless_state, rules_run}
 use Rattle.endless.proofs.Ended.{ended}
@@ -35,5 +35,5 @@ pub goes_on : (room n start : ℕ) (table inputs : List ℕ) → run_of room tab
     let T = numbers_in table in
     let I = numbers_in inputs in
     (m : ℕ) →
-    (move_of T I (recorded_scan (scans_of I) (return_of I) (endless_state T I m).scan) (endless_state T I m)).going ≡ On
+    (move_of T I (recorded_scan (scans_of I) (return_of I) (endless_state T I m).scan) (endless_state T I m)).stopped ≡ None
 goes_on room n start table inputs e m = on_then (ended room n start table inputs e) m

@@ -8,6 +8,7 @@ use mathlib.Core.Bool.{Bool, true, false}
 use mathlib.Core.List.{List}
 use lib.ListN.{get_or}
 use lib.Dec.{ltb}
+use Rattle.std.specs.Prelude.{None}
 use Rattle.coding.specs.Code.{code_at}
 use Rattle.coding.specs.declared.Cause.{Cause}
 use Rattle.coding.specs.declared.Answer.{Answer}
@@ -19,7 +20,6 @@ use Rattle.controller.specs.Same.{same_state}
 use Rattle.run.specs.Limits.{last_state, trace_room}
 use Rattle.run.specs.Running.{reached, to_return, to_end, closing, ran_of}
 use Rattle.run.specs.Trace.{numbers_in, by_inputs, by_table, run_of}
-use Rattle.run.specs.declared.Going.TheVariants.{On}
 use Rattle.run.specs.declared.Reached.{Reached}
 use Rattle.run.specs.declared.Ran.TheVariants.{Closed, Halted, Refused}
 use Rattle.controller.proofs.Equal.{same_is_equal}
@@ -45,13 +45,13 @@ not_refused e = let z : ◌≡◌ {A = ℕ} 0 1 = cc in omega arith
 
 -- ---- the scans
 module _ (T I : List ℕ) (n start : ℕ) (e : ran_of T I ≡ Closed n start) where
-  back_on : (to_return T I).going ≡ On
+  back_on : (to_return T I).stopped ≡ None
   unfolding ran_of
-  back_on = ⊎_elim (λ g. g) (λ (cause, g). absurd (not_halted (rw (g, ran_of) at e))) (on_or_stopped (to_return T I).going)
+  back_on = ⊎_elim (λ g. g) (λ (cause, g). absurd (not_halted (rw (g, ran_of) at e))) (on_or_stopped (to_return T I).stopped)
 
-  last_on : (to_end T I).going ≡ On
+  last_on : (to_end T I).stopped ≡ None
   unfolding ran_of
-  last_on = ⊎_elim (λ g. g) (λ (cause, g). absurd (not_halted (rw (back_on, g, ran_of) at e))) (on_or_stopped (to_end T I).going)
+  last_on = ⊎_elim (λ g. g) (λ (cause, g). absurd (not_halted (rw (back_on, g, ran_of) at e))) (on_or_stopped (to_end T I).stopped)
 
   closes : closing (scans_of I) (to_return T I) (to_end T I) ≡ Closed n start
   unfolding ran_of
@@ -74,18 +74,18 @@ met q n start back last e = go (same_state last.machine.state back.machine.state
         record { same = same_is_equal last.machine.state back.machine.state f; n_is = cc; start_is = cc }
 
 module _ (T I : List ℕ) where
-  pub came_back : (to_return T I).going ≡ On → Came T I (return_of I) 0 last_state (to_return T I)
+  pub came_back : (to_return T I).stopped ≡ None → Came T I (return_of I) 0 last_state (to_return T I)
   unfolding to_return state_at
   came_back g = came T I (return_of I) (last_state - 0) 0 g
 
   came_last : (r : Reached) (k : ℕ) → r.machine ≡ state_at T I r.number → r.number ≤ last_state →
-      (reached T I k (last_state - r.number) r.number r.machine).going ≡ On →
+      (reached T I k (last_state - r.number) r.number r.machine).stopped ≡ None →
       Came T I k r.number last_state (reached T I k (last_state - r.number) r.number r.machine)
   came_last r k e h g =
       let most : r.number + (last_state - r.number) ≡ last_state = omega arith in
       rw e (rw most at (came T I k (last_state - r.number) r.number (rw e at g)))
 
-  pub came_end : Came T I (return_of I) 0 last_state (to_return T I) → (to_end T I).going ≡ On → Came T I (scans_of I) (to_return T I).number last_state (to_end T I)
+  pub came_end : Came T I (return_of I) 0 last_state (to_return T I) → (to_end T I).stopped ≡ None → Came T I (scans_of I) (to_return T I).number last_state (to_end T I)
   unfolding to_end
   came_end c g = came_last (to_return T I) (scans_of I) c.machine c.bound g
 

@@ -6,13 +6,13 @@ use native.Mathlib.Decide.{dec_lt}
 use mathlib.Core.Path.{◌≡◌, sym, ap, ◌∙◌}
 use mathlib.Core.List.{List}
 use borrow.Author.Tests.{le-ltb}
+use Rattle.std.specs.Prelude.{None}
 use Rattle.meaning.specs.Trace.{position, endless}
 use Rattle.lookups.specs.Places.{tests_of}
 use Rattle.lasso.proofs.Looking.{atom_within, above}
 use Rattle.controller.specs.State.{states_of}
 use Rattle.scan.specs.Guards.{atom_of}
 use Rattle.run.specs.Trace.{trace_bytes}
-use Rattle.run.specs.declared.Going.TheVariants.{On}
 use Rattle.run.specs.declared.Machine.{Machine}
 use Rattle.endless.specs.Unrolled.{endless_state, rules_run}
 use Rattle.endless.proofs.Ended.{Ended}
@@ -43,7 +43,7 @@ module _ {T I : List ℕ} {n start : ℕ} (h : Ended T I n start) (m : ℕ) wher
       go (yes l) = atoms_below k l
       go (no l) = atoms_above k (omega arith)
 
-  pub on_then : (endless_move T I (endless_state T I m)).going ≡ On
+  pub on_then : (endless_move T I (endless_state T I m)).stopped ≡ None
   on_then = agreeing_goes_on h (position_inside h m) (agrees h m)
 
 -- The lasso's endless run is the endless run of the rules.

@@ -7,6 +7,7 @@ use mathlib.Core.Bool.{Bool, true, false}
 use mathlib.Core.List.{List}
 use lib.Dec.{eqb, ltb}
 use borrow.Author.Tests.{eqb-true, eqb-false, ltb-true}
+use Rattle.std.specs.Prelude.{Option, None, Some}
 use Rattle.coding.specs.declared.Cause.{Cause}
 use Rattle.coding.specs.declared.Cause.TheVariants.{NoRule as NoRuleFound}
 use Rattle.ranges.specs.Values.{pick}
@@ -22,8 +23,6 @@ use Rattle.controller.specs.declared.Outcome.{Outcome}
 use Rattle.controller.specs.declared.Outcome.TheVariants.{Stays, Passes, NoRule}
 use Rattle.scan.specs.Scanning.{read_of, write_of}
 use Rattle.run.specs.Moves.{to, stops, step_of, active, after_action, too_long, unruled, before, unless, action_move, after_read, after_write, move_of}
-use Rattle.run.specs.declared.Going.{Going}
-use Rattle.run.specs.declared.Going.TheVariants.{On, Stopped}
 use Rattle.run.specs.declared.Machine.{Machine}
 use Rattle.run.specs.declared.Moved.{Moved}
 
@@ -41,18 +40,18 @@ counter_some Stays n h = h
 counter_some Passes n h = up_some n h
 counter_some NoRule n h = h
 
-record Some (a : Acted) : Type 0 where
+record Counting (a : Acted) : Type 0 where
   counter : 0 < a.state.counter
 
-act_some : (i : ℕ) (a : Action) (k : ℕ) (c : Controller) → 0 < c.counter → Some (act_of i a k c)
+act_some : (i : ℕ) (a : Action) (k : ℕ) (c : Controller) → 0 < c.counter → Counting (act_of i a k c)
 unfolding act_of
 act_some i a k c h = record { counter = counter_some (act_of i a k c).outcome c.counter h }
 
-chosen : (b : Bool) {x y : Acted} → Some x → Some y → Some (pick b x y)
+chosen : (b : Bool) {x y : Acted} → Counting x → Counting y → Counting (pick b x y)
 chosen true p q = p
 chosen false p q = q
 
-step_some : (T : List ℕ) (i : ℕ) (c : Controller) → 0 < c.counter → Some (step_of T i c)
+step_some : (T : List ℕ) (i : ℕ) (c : Controller) → 0 < c.counter → Counting (step_of T i c)
 unfolding step_of
 step_some T i c h =
     let p = record_at c.processes i in
@@ -85,12 +84,12 @@ module _ (P : Moved → Moved → Type 0) (T I : List ℕ) (d : ℕ) (m : Machin
     (stay : 0 < m.state.counter → (c : Controller) → 0 < c.counter → P (to (after_stay m c)) (to (after_stay (with_scan m s) c)))
     (pass : 0 < m.state.counter → (c : Controller) → 0 < c.counter → P (to (after_pass m c)) (to (after_pass (with_scan m s) c)))
     (stop : (cause : Cause) → P (stops cause m) (stops cause (with_scan m s))) where
-  by_looks : 0 < m.state.counter → (long : Going) (o : Outcome) (c : Controller) → 0 < c.counter →
+  by_looks : 0 < m.state.counter → (long : Option Cause) (o : Outcome) (c : Controller) → 0 < c.counter →
       P (unless (before long (unruled o)) m (after_action m o c)) (unless (before long (unruled o)) (with_scan m s) (after_action (with_scan m s) o c))
-  by_looks h (Stopped cause) o c k = stop cause
-  by_looks h On Stays c k = stay h c k
-  by_looks h On Passes c k = pass h c k
-  by_looks h On NoRule c k = stop NoRuleFound
+  by_looks h (Some cause) o c k = stop cause
+  by_looks h None Stays c k = stay h c k
+  by_looks h None Passes c k = pass h c k
+  by_looks h None NoRule c k = stop NoRuleFound
 
   by_action : 0 < m.state.counter → P (action_move T m) (action_move T (with_scan m s))
   unfolding action_move

@@ -6,12 +6,12 @@ use mathlib.Core.Path.{◌≡◌, refl}
 use mathlib.Core.Logic.{◌⊎◌, inl, inr}
 use mathlib.Core.Bool.{true}
 use mathlib.Core.List.{List}
+use Rattle.std.specs.Prelude.{None}
 use Rattle.requirement.specs.declared.Phase.{Phase}
 use Rattle.requirement.specs.declared.Phase.TheVariants.{Input, Exe, Output}
 use Rattle.meaning.specs.Trace.{Follows}
 use Rattle.lookups.specs.Places.{processes_of}
 use Rattle.run.specs.Moves.{move_of}
-use Rattle.run.specs.declared.Going.TheVariants.{On}
 use Rattle.run.specs.declared.Machine.{Machine}
 use Rattle.run.specs.declared.Moved.{Moved}
 use Rattle.endless.proofs.Moves.{by_move}
@@ -47,9 +47,9 @@ acts Input c u f h = refl
 acts Exe c u f h = refl
 acts Output c u f h = absurd (omega arith)
 
-pub goes : (T I : List ℕ) (d : ℕ) (m : Machine) → 1 ≤ processes_of T → Fits m → (move_of T I d m).going ≡ On → Goes m (move_of T I d m)
+pub goes : (T I : List ℕ) (d : ℕ) (m : Machine) → 1 ≤ processes_of T → Fits m → (move_of T I d m).stopped ≡ None → Goes m (move_of T I d m)
 goes T I d m some f =
-    by_move (λ x y. x.going ≡ On → Goes m x) T I d m m.scan
+    by_move (λ x y. x.stopped ≡ None → Goes m x) T I d m m.scan
     (λ h c k e. record { fits = record { fit = (k, refl) }; follows = reads m.phase m.state.counter m.used f.fit h; scans = inl refl })
     (λ h c k e. record {
       fits = record { fit = (k, refl) };

@@ -8,8 +8,8 @@ use native.Mathlib.Decide.{dec_lt, ℕ_discrete}
 use mathlib.Core.Path.{◌≡◌, refl, sym, ◌∙◌}
 use mathlib.Core.Logic.{⊎_elim}
 use mathlib.Core.List.{List}
+use Rattle.std.specs.Prelude.{None}
 use Rattle.lookups.specs.Places.{processes_of}
-use Rattle.run.specs.declared.Going.TheVariants.{On}
 use Rattle.run.specs.declared.Machine.{Machine}
 use Rattle.invariants.specs.Runs.{RunOf, move_at}
 use Rattle.invariants.specs.Refusals.{Acts}
@@ -47,7 +47,7 @@ module _ {T I : List ℕ} {taking : ℕ → ℕ} {state : ℕ → Machine} (r : 
         begins = (d.begins.0, d.begins.1 ∙ sym same);
       }
 
-  next_counted : (k : ℕ) → Acts T (state (suc k)) → (move_at T I taking state k).going ≡ On →
+  next_counted : (k : ℕ) → Acts T (state (suc k)) → (move_at T I taking state k).stopped ≡ None →
       (Acts T (state k) → DoneSoFar T state k) → DoneSoFar T state (suc k)
   next_counted k a on before = go (ℕ_discrete (turn_at state k) 0) (dec_lt (processes_of T) (turn_at state k))
     where
@@ -61,7 +61,7 @@ module _ {T I : List ℕ} {taking : ℕ → ℕ} {state : ℕ → Machine} (r : 
           (acted_at r k few (omega arith) on)
 
   -- At every state to which the moves go on.
-  pub counted : (k : ℕ) → ((j : ℕ) → j < k → (move_at T I taking state j).going ≡ On) → Acts T (state k) →
+  pub counted : (k : ℕ) → ((j : ℕ) → j < k → (move_at T I taking state j).stopped ≡ None) → Acts T (state k) →
       DoneSoFar T state k
   counted zero on a = absurd (omega (arith, starts_reading r))
   counted (suc k) on a = next_counted k a (on k (omega arith)) (λ b. counted k (λ j l. on j (omega arith)) b)

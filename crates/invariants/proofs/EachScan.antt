@@ -7,6 +7,7 @@ use native.Mathlib.Decide.{dec_lt}
 use mathlib.Core.Path.{◌≡◌, refl, ap, ◌∙◌}
 use mathlib.Core.List.{List}
 use lib.ListN.{length}
+use Rattle.std.specs.Prelude.{Option, None, Some}
 use Rattle.coding.specs.Code.{Code, code_at, values}
 use Rattle.coding.specs.declared.Cause.{Cause}
 use Rattle.coding.specs.declared.Answer.TheVariants.{Count}
@@ -20,8 +21,6 @@ use Rattle.structure.proofs.Whole.{accepted_is_allowed}
 use Rattle.run.specs.Running.{recorded_move}
 use Rattle.run.specs.Trace.{numbers_in, run_of}
 use Rattle.run.specs.declared.Ran.TheVariants.{Closed}
-use Rattle.run.specs.declared.Going.{Going}
-use Rattle.run.specs.declared.Going.TheVariants.{On, Stopped}
 use Rattle.endless.specs.Recorded.{state_at, MovesOn}
 use Rattle.endless.specs.Unrolled.{endless_state}
 use Rattle.endless.proofs.Closed.{goes_on}
@@ -42,13 +41,13 @@ record First (T I : List ℕ) (k l : ℕ) : Type 0 where
 
 module _ (T I : List ℕ) where
   -- A state that arises is come to by moves that go on.
-  goes_unless : (j : ℕ) (g : Going) → Says T (state_at T I j) g → ((cause : Cause) → ¬ Stops T I j cause) → g ≡ On
-  goes_unless j On h n = refl
-  goes_unless j (Stopped cause) h n = absurd (n cause (action h))
+  goes_unless : (j : ℕ) (g : Option Cause) → Says T (state_at T I j) g → ((cause : Cause) → ¬ Stops T I j cause) → g ≡ None
+  goes_unless j None h n = refl
+  goes_unless j (Some cause) h n = absurd (n cause (action h))
 
   moves_on : (l : ℕ) → Arises T I l → MovesOn T I 0 l
   moves_on l a j _ b =
-      goes_unless j (recorded_move T I (state_at T I j)).going (says T (state_at T I j) I (state_at T I j).scan) (a j b)
+      goes_unless j (recorded_move T I (state_at T I j)).stopped (says T (state_at T I j) I (state_at T I j).scan) (a j b)
 
   -- A scan is done at an Output.
   output_where : (j : ℕ) (p : Phase) → (state_at T I (suc j)).phase ≡ p →

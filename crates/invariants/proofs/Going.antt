@@ -4,6 +4,7 @@ use Prim.Native.Nat.{ℕ, zero, suc, ◌+◌, ◌-◌, ◌<◌, ◌≤◌}
 use native.Mathlib.Omega.{arith}
 use mathlib.Core.Path.{◌≡◌, refl}
 use mathlib.Core.List.{List}
+use Rattle.std.specs.Prelude.{Option, None, Some}
 use Rattle.coding.specs.declared.Cause.{Cause}
 use Rattle.requirement.specs.declared.Phase.{Phase}
 use Rattle.controller.specs.declared.Controller.{Controller}
@@ -11,8 +12,6 @@ use Rattle.controller.specs.declared.Outcome.{Outcome}
 use Rattle.controller.specs.declared.Outcome.TheVariants.{Stays, Passes}
 use Rattle.run.specs.Limits.{longest_turn}
 use Rattle.run.specs.Moves.{to, unruled, move_of}
-use Rattle.run.specs.declared.Going.{Going}
-use Rattle.run.specs.declared.Going.TheVariants.{On, Stopped}
 use Rattle.run.specs.declared.Machine.{Machine}
 use Rattle.run.specs.declared.Moved.{Moved}
 use Rattle.endless.specs.Recorded.{state_at}
@@ -22,23 +21,23 @@ use Rattle.invariants.proofs.MoveKinds.{step_in, by_kind}
 
 module _ (T : List ℕ) (m : Machine) where
   -- What a look at the next move says.
-  abbrev pub Says : Going → Type 0
-  Says On = (cause : Cause) → ¬ Forbids T m cause
-  Says (Stopped cause) = Forbids T m cause
+  abbrev pub Says : Option Cause → Type 0
+  Says None = (cause : Cause) → ¬ Forbids T m cause
+  Says (Some cause) = Forbids T m cause
 
-  no_action_lem : ¬ Acts T m → Says On
+  no_action_lem : ¬ Acts T m → Says None
   no_action_lem n cause (long_turn a _) = n a
   no_action_lem n cause (no_rule a _ _) = n a
 
   -- An action within the turn's 64 that has a rule.
-  has_rule : m.used < longest_turn → (o : Outcome) → (step_in T m).outcome ≡ o → unruled o ≡ On → Says On
+  has_rule : m.used < longest_turn → (o : Outcome) → (step_in T m).outcome ≡ o → unruled o ≡ None → Says None
   has_rule l o f e cause (long_turn _ k) = omega arith
   has_rule l o f e cause (no_rule _ _ k) = never (rw (← f, k) at e)
 
   -- A read and a write go on; an action as long as nothing is against it.
-  pub says : (I : List ℕ) (d : ℕ) → Says (move_of T I d m).going
+  pub says : (I : List ℕ) (d : ℕ) → Says (move_of T I d m).stopped
   says I d =
-      by_kind (λ x. Says x.going) T I d m
+      by_kind (λ x. Says x.stopped) T I d m
       (λ e. no_action_lem (λ a. omega arith))
       (λ e f. no_action_lem (λ a. omega arith))
       (λ a l e. has_rule l Stays e refl)
@@ -46,7 +45,7 @@ module _ (T : List ℕ) (m : Machine) where
       (λ cause f. f)
 
   -- What is against a move stops it, and is one thing.
-  pub forbidden_stops : (I : List ℕ) (d : ℕ) {cause : Cause} → Forbids T m cause → ¬ ((move_of T I d m).going ≡ On)
+  pub forbidden_stops : (I : List ℕ) (d : ℕ) {cause : Cause} → Forbids T m cause → ¬ ((move_of T I d m).stopped ≡ None)
   forbidden_stops I d {cause} f e = (rw e at (says I d)) cause f
 
   pub one_cause : {c d : Cause} → Forbids T m c → Forbids T m d → c ≡ d

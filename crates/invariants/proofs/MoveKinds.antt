@@ -8,6 +8,7 @@ use mathlib.Core.Bool.{Bool, true, false}
 use mathlib.Core.List.{List}
 use lib.Dec.{eqb, ltb}
 use borrow.Author.Tests.{eqb-true, eqb-false, ltb-true, ltb-false}
+use Rattle.std.specs.Prelude.{None, Some}
 use Rattle.coding.specs.declared.Cause.{Cause}
 use Rattle.coding.specs.declared.Cause.TheVariants.{NoRule as NoRuleFound, LongTurn}
 use Rattle.ranges.specs.Values.{pick}
@@ -19,7 +20,6 @@ use Rattle.scan.specs.Scanning.{read_of, write_of}
 use Rattle.run.specs.Limits.{longest_turn}
 use Rattle.run.specs.Moves.{to, stops, step_of, too_long, unruled, before, unless, after_action, action_move, after_read}
 use Rattle.run.specs.Moves.{after_write, move_of}
-use Rattle.run.specs.declared.Going.TheVariants.{On, Stopped}
 use Rattle.run.specs.declared.Machine.{Machine}
 use Rattle.run.specs.declared.Moved.{Moved}
 use Rattle.endless.proofs.Moves.{after_stay, after_pass}
@@ -47,7 +47,7 @@ module _ (P : Moved → Type 0) (T I : List ℕ) (d : ℕ) (m : Machine)
   by_action a = go (ltb m.used longest_turn) refl
     where
       go : (b : Bool) → ltb m.used longest_turn ≡ b →
-          P (unless (before (pick b On (Stopped LongTurn)) (unruled (step_in T m).outcome)) m (after_action m (step_in T m).outcome (step_in T m).state))
+          P (unless (before (pick b None (Some LongTurn)) (unruled (step_in T m).outcome)) m (after_action m (step_in T m).outcome (step_in T m).state))
       go true e = by_rule a (ltb-true m.used longest_turn e) (step_in T m).outcome refl
       go false e = stop LongTurn (long_turn a (ltb-false m.used longest_turn e))
 

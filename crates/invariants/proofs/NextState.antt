@@ -8,6 +8,7 @@ use mathlib.Core.Bool.{Bool, true, false}
 use mathlib.Core.List.{List}
 use lib.Dec.{eqb}
 use borrow.Author.Tests.{lt-ltb}
+use Rattle.std.specs.Prelude.{None}
 use Rattle.coding.specs.declared.Cause.{Cause}
 use Rattle.ranges.specs.Values.{pick}
 use Rattle.requirement.specs.declared.Phase.{Phase}
@@ -24,7 +25,6 @@ use Rattle.controller.specs.declared.Outcome.TheVariants.{Stays, Passes}
 use Rattle.scan.specs.Scanning.{read_of, write_of}
 use Rattle.run.specs.Limits.{longest_turn}
 use Rattle.run.specs.Moves.{step_of, active, move_of}
-use Rattle.run.specs.declared.Going.TheVariants.{On}
 use Rattle.run.specs.declared.Machine.{Machine}
 use Rattle.endless.proofs.States.{never}
 use Rattle.invariants.specs.Runs.{RunOf, move_at}
@@ -93,11 +93,11 @@ acting (long_turn a _) = a
 acting (no_rule a _ _) = a
 
 module _ (T I : List ℕ) (d : ℕ) (m : Machine) where
-  acted : processes_of T < 65535 → Acts T m → (move_of T I d m).going ≡ On →
+  acted : processes_of T < 65535 → Acts T m → (move_of T I d m).stopped ≡ None →
       Stayed T m (move_of T I d m).machine ⊎ Passed T m (move_of T I d m).machine
   acted few a =
       let counts = step_counts T m.state.counter m.state in
-      by_kind (λ x. x.going ≡ On → Stayed T m x.machine ⊎ Passed T m x.machine) T I d m
+      by_kind (λ x. x.stopped ≡ None → Stayed T m x.machine ⊎ Passed T m x.machine) T I d m
       (λ e. absurd (omega arith))
       (λ e f. absurd (omega arith))
       (λ b l e g. inl
@@ -145,10 +145,10 @@ module _ (T I : List ℕ) (d : ℕ) (m : Machine) where
       by_kind (λ x. ¬ (x.machine.phase ≡ Output) → x.machine.scan ≡ m.scan) T I d m
       (λ e n. refl) (λ e f n. absurd (n refl)) (λ a l e n. refl) (λ a l e n. refl) (λ cause f n. refl)
 
-  output_scan : (move_of T I d m).going ≡ On → (move_of T I d m).machine.phase ≡ Output →
+  output_scan : (move_of T I d m).stopped ≡ None → (move_of T I d m).machine.phase ≡ Output →
       (move_of T I d m).machine.scan ≡ m.scan + 1
   output_scan =
-      by_kind (λ x. x.going ≡ On → x.machine.phase ≡ Output → x.machine.scan ≡ m.scan + 1) T I d m
+      by_kind (λ x. x.stopped ≡ None → x.machine.phase ≡ Output → x.machine.scan ≡ m.scan + 1) T I d m
       (λ e g o. absurd (input_or_output refl o))
       (λ e f g o. refl)
       (λ a l e g o. absurd (exe_or_output refl o))
@@ -157,7 +157,7 @@ module _ (T I : List ℕ) (d : ℕ) (m : Machine) where
 
 -- ---- the same of the states of a run
 module _ {T I : List ℕ} {taking : ℕ → ℕ} {state : ℕ → Machine} (r : RunOf T I taking state) (k : ℕ) where
-  pub acted_at : processes_of T < 65535 → Acts T (state k) → (move_at T I taking state k).going ≡ On →
+  pub acted_at : processes_of T < 65535 → Acts T (state k) → (move_at T I taking state k).stopped ≡ None →
       Stayed T (state k) (state (suc k)) ⊎ Passed T (state k) (state (suc k))
   acted_at few a g = rw (r.next k) (acted T I (taking (state k).scan) (state k) few a g)
 
@@ -170,6 +170,6 @@ module _ {T I : List ℕ} {taking : ℕ → ℕ} {state : ℕ → Machine} (r : 
   pub same_scan_at : ¬ ((state (suc k)).phase ≡ Output) → (state (suc k)).scan ≡ (state k).scan
   same_scan_at n = rw (r.next k) (same_scan T I (taking (state k).scan) (state k) (rw (r.next k) at n))
 
-  pub output_scan_at : (move_at T I taking state k).going ≡ On → (state (suc k)).phase ≡ Output →
+  pub output_scan_at : (move_at T I taking state k).stopped ≡ None → (state (suc k)).phase ≡ Output →
       (state (suc k)).scan ≡ (state k).scan + 1
   output_scan_at g o = rw (r.next k) (output_scan T I (taking (state k).scan) (state k) g (rw (r.next k) at o))

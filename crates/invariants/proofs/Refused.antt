@@ -10,6 +10,7 @@ use mathlib.Core.Bool.{Bool, true, false}
 use mathlib.Core.List.{List}
 use lib.Dec.{ltb}
 use borrow.Author.Tests.{ltb-true}
+use Rattle.std.specs.Prelude.{Option, None, Some}
 use Rattle.coding.specs.declared.Cause.{Cause}
 use Rattle.coding.specs.declared.Cause.TheVariants.{LongRun, NotClosed}
 use Rattle.ranges.specs.Values.{pick}
@@ -18,8 +19,6 @@ use Rattle.controller.specs.Same.{same_state}
 use Rattle.controller.proofs.Equal.{same_is_equal, equal_is_same}
 use Rattle.run.specs.Limits.{last_state}
 use Rattle.run.specs.Running.{recorded_move, stopped_at, reached, to_return, to_end, halted, closing, ran_of}
-use Rattle.run.specs.declared.Going.{Going}
-use Rattle.run.specs.declared.Going.TheVariants.{On, Stopped}
 use Rattle.run.specs.declared.Reached.{Reached}
 use Rattle.run.specs.declared.Ran.{Ran}
 use Rattle.run.specs.declared.Ran.TheVariants.{Closed, Halted, Refused}
@@ -38,12 +37,12 @@ record StoppedAt (T I : List ℕ) (k n : ℕ) (cause : Cause) (r : Reached) : Ty
   stops : Stops T I r.number cause
   early : (state_at T I r.number).scan < k
 
-abbrev Told : List ℕ → List ℕ → ℕ → ℕ → Reached → Going → Type 0
-Told T I k n r On = Unit {0}
-Told T I k n r (Stopped cause) = StoppedAt T I k n cause r
+abbrev Told : List ℕ → List ℕ → ℕ → ℕ → Reached → Option Cause → Type 0
+Told T I k n r None = Unit {0}
+Told T I k n r (Some cause) = StoppedAt T I k n cause r
 
-told_stopped : (T I : List ℕ) (k n : ℕ) (r : Reached) (g : Going) (cause : Cause) → Told T I k n r g →
-    g ≡ Stopped cause → StoppedAt T I k n cause r
+told_stopped : (T I : List ℕ) (k n : ℕ) (r : Reached) (g : Option Cause) (cause : Cause) → Told T I k n r g →
+    g ≡ Some cause → StoppedAt T I k n cause r
 told_stopped T I k n r g cause t e = rw e at t
 
 module _ (T I : List ℕ) (k : ℕ) where
@@ -52,10 +51,10 @@ module _ (T I : List ℕ) (k : ℕ) where
   stopped_here n cause l e s =
       record { machine = refl; last = l; on = λ j a b. absurd (omega arith); stops = s; early = e }
 
-  one_sooner : (n : ℕ) (r : Reached) (g : Going) → (recorded_move T I (state_at T I n)).going ≡ On →
+  one_sooner : (n : ℕ) (r : Reached) (g : Option Cause) → (recorded_move T I (state_at T I n)).stopped ≡ None →
       Told T I k (suc n) r g → Told T I k n r g
-  one_sooner n r On e h = tt
-  one_sooner n r (Stopped cause) e h = record {
+  one_sooner n r None e h = tt
+  one_sooner n r (Some cause) e h = record {
     machine = h.machine;
     last = h.last;
     on = λ j a b. ⊎_elim (λ (q : n ≡ j). rw (← q) e) (λ (l : n < j). h.on j l b) (eq-or-lt_of_le a);
@@ -64,47 +63,47 @@ module _ (T I : List ℕ) (k : ℕ) where
   }
 
   -- What is against a move, and that nothing is.
-  against : (n : ℕ) (cause : Cause) → (recorded_move T I (state_at T I n)).going ≡ Stopped cause →
+  against : (n : ℕ) (cause : Cause) → (recorded_move T I (state_at T I n)).stopped ≡ Some cause →
       Forbids T (state_at T I n) cause
   against n cause e = rw e at (says T (state_at T I n) I (state_at T I n).scan)
 
-  nothing_against : (n : ℕ) → (recorded_move T I (state_at T I n)).going ≡ On → (cause : Cause) →
+  nothing_against : (n : ℕ) → (recorded_move T I (state_at T I n)).stopped ≡ None → (cause : Cause) →
       ¬ Forbids T (state_at T I n) cause
   nothing_against n e cause f = forbidden_stops T (state_at T I n) I (state_at T I n).scan f e
 
   abbrev From : ℕ → ℕ → Reached
   From more n = reached T I k more n (state_at T I n)
 
-  further : (more n : ℕ) → ltb (state_at T I n).scan k ≡ true → (recorded_move T I (state_at T I n)).going ≡ On →
-      Told T I k (suc n) (From more (suc n)) (From more (suc n)).going →
-      Told T I k n (From (suc more) n) (From (suc more) n).going
+  further : (more n : ℕ) → ltb (state_at T I n).scan k ≡ true → (recorded_move T I (state_at T I n)).stopped ≡ None →
+      Told T I k (suc n) (From more (suc n)) (From more (suc n)).stopped →
+      Told T I k n (From (suc more) n) (From (suc more) n).stopped
   unfolding state_at
   further more n e f next =
-      rw (goes_on T I k n (state_at T I n) more e f) (one_sooner n (From more (suc n)) (From more (suc n)).going f next)
+      rw (goes_on T I k n (state_at T I n) more e f) (one_sooner n (From more (suc n)) (From more (suc n)).stopped f next)
 
-  told : (more n : ℕ) → n + more ≡ last_state → Told T I k n (From more n) (From more n).going
+  told : (more n : ℕ) → n + more ≡ last_state → Told T I k n (From more n) (From more n).stopped
   told zero n full = go (ltb (state_at T I n).scan k) refl
     where
-      go : (b : Bool) → ltb (state_at T I n).scan k ≡ b → Told T I k n (From 0 n) (From 0 n).going
+      go : (b : Bool) → ltb (state_at T I n).scan k ≡ b → Told T I k n (From 0 n) (From 0 n).stopped
       go false e = rw (is_here T I k n (state_at T I n) 0 e) tt
       go true e =
           let early = ltb-true (state_at T I n).scan k e in
           ⊎_elim
           (λ f. rw (no_room T I k n (state_at T I n) e f) (stopped_here n LongRun (omega arith) early (long_run (omega arith) (nothing_against n f))))
           (λ (cause, f). rw (is_stopped T I k n (state_at T I n) 0 cause e f) (stopped_here n cause (omega arith) early (action (against n cause f))))
-          (on_or_stopped (recorded_move T I (state_at T I n)).going)
+          (on_or_stopped (recorded_move T I (state_at T I n)).stopped)
   told (suc more) n full = go (ltb (state_at T I n).scan k) refl (told more (suc n) (omega arith))
     where
       go : (b : Bool) → ltb (state_at T I n).scan k ≡ b →
-          Told T I k (suc n) (From more (suc n)) (From more (suc n)).going →
-          Told T I k n (From (suc more) n) (From (suc more) n).going
+          Told T I k (suc n) (From more (suc n)) (From more (suc n)).stopped →
+          Told T I k n (From (suc more) n) (From (suc more) n).stopped
       go false e next = rw (is_here T I k n (state_at T I n) (suc more) e) tt
       go true e next =
           let early = ltb-true (state_at T I n).scan k e in
           ⊎_elim
           (λ f. further more n e f next)
           (λ (cause, f). rw (is_stopped T I k n (state_at T I n) (suc more) cause e f) (stopped_here n cause (omega arith) early (action (against n cause f))))
-          (on_or_stopped (recorded_move T I (state_at T I n)).going)
+          (on_or_stopped (recorded_move T I (state_at T I n)).stopped)
 
 -- ---- the run
 module _ (T I : List ℕ) where
@@ -116,7 +115,7 @@ module _ (T I : List ℕ) where
   moves_joined : (n l : ℕ) → MovesOn T I 0 n → MovesOn T I n l → MovesOn T I 0 l
   moves_joined n l on on' j a b = go (dec_lt j n)
     where
-      go : Dec (j < n) → (recorded_move T I (state_at T I j)).going ≡ On
+      go : Dec (j < n) → (recorded_move T I (state_at T I j)).stopped ≡ None
       go (yes h) = on j a h
       go (no h) = on' j (omega arith) b
 
@@ -184,37 +183,37 @@ module _ (T I : List ℕ) where
           not_same p r = let z : ◌≡◌ {A = ℕ} 0 1 = cc in omega arith
 
   -- ---- the ways of the definition
-  back_stopped : (cause : Cause) → (to_return T I).going ≡ Stopped cause →
+  back_stopped : (cause : Cause) → (to_return T I).stopped ≡ Some cause →
       ran_of T I ≡ halted cause (to_return T I).machine
   unfolding ran_of
   back_stopped cause g = rw (g, ran_of) refl
 
-  last_stopped : (cause : Cause) → (to_return T I).going ≡ On → (to_end T I).going ≡ Stopped cause →
+  last_stopped : (cause : Cause) → (to_return T I).stopped ≡ None → (to_end T I).stopped ≡ Some cause →
       ran_of T I ≡ halted cause (to_end T I).machine
   unfolding ran_of
   last_stopped cause g h = rw (g, h, ran_of) refl
 
-  both_on : (r : Ran) → closing (scans_of I) (to_return T I) (to_end T I) ≡ r → (to_return T I).going ≡ On →
-      (to_end T I).going ≡ On → ran_of T I ≡ r
+  both_on : (r : Ran) → closing (scans_of I) (to_return T I) (to_end T I) ≡ r → (to_return T I).stopped ≡ None →
+      (to_end T I).stopped ≡ None → ran_of T I ≡ r
   unfolding ran_of
   both_on r e g h = rw (g, h, ran_of) e
 
   onward_told : (r : Reached) (k : ℕ) → r.machine ≡ state_at T I r.number → r.number ≤ last_state →
       let x = reached T I k (last_state - r.number) r.number r.machine in
-      Told T I k r.number x x.going
+      Told T I k r.number x x.stopped
   onward_told r k e h = rw e (told T I k (last_state - r.number) r.number (omega arith))
 
-  back_told : Told T I (return_of I) 0 (to_return T I) (to_return T I).going
+  back_told : Told T I (return_of I) 0 (to_return T I) (to_return T I).stopped
   unfolding to_return state_at
   back_told = told T I (return_of I) (last_state - 0) 0 (omega arith)
 
   end_told : Came T I (return_of I) 0 last_state (to_return T I) →
-      Told T I (scans_of I) (to_return T I).number (to_end T I) (to_end T I).going
+      Told T I (scans_of I) (to_return T I).number (to_end T I) (to_end T I).stopped
   unfolding to_end
   end_told c = onward_told (to_return T I) (scans_of I) c.machine c.bound
 
   module _ (below : return_of I < scans_of I) where
-    by_end : (to_return T I).going ≡ On → Came T I (return_of I) 0 last_state (to_return T I) → Ends T I (ran_of T I)
+    by_end : (to_return T I).stopped ≡ None → Came T I (return_of I) 0 last_state (to_return T I) → Ends T I (ran_of T I)
     by_end g c =
         ⊎_elim
         (λ h.
@@ -225,7 +224,7 @@ module _ (T I : List ℕ) where
         (λ (cause, h).
         let s = told_stopped T I _ _ _ _ cause (end_told c) h in
         rw (last_stopped cause g h) (by_stop cause (to_end T I) (scans_of I) (to_return T I).number (omega arith) c.arrived.on s))
-        (on_or_stopped (to_end T I).going)
+        (on_or_stopped (to_end T I).stopped)
 
     ends : Ends T I (ran_of T I)
     ends =
@@ -234,7 +233,7 @@ module _ (T I : List ℕ) where
         (λ (cause, g).
         let s = told_stopped T I _ _ _ _ cause back_told g in
         rw (back_stopped cause g) (by_stop cause (to_return T I) (return_of I) 0 (omega arith) (λ j a b. absurd (omega arith)) s))
-        (on_or_stopped (to_return T I).going)
+        (on_or_stopped (to_return T I).stopped)
 
   -- ---- a run ends in one way only
   same_cause : {j : ℕ} {c d : Cause} → Stops T I j c → Stops T I j d → c ≡ d

@@ -7,13 +7,13 @@ use native.Mathlib.Decide.{dec_lt}
 use mathlib.Core.Path.{◌≡◌, refl, ◌∙◌}
 use mathlib.Core.Logic.{⊎_elim}
 use mathlib.Core.List.{List}
+use Rattle.std.specs.Prelude.{None}
 use Rattle.requirement.specs.declared.Phase.{Phase}
 use Rattle.requirement.specs.declared.Phase.TheVariants.{Input, Exe, Output}
 use Rattle.lookups.specs.Places.{processes_of}
 use Rattle.structure.specs.Allowed.{OneOf}
 use Rattle.controller.specs.declared.Outcome.TheVariants.{Stays, Passes}
 use Rattle.run.specs.Limits.{longest_turn}
-use Rattle.run.specs.declared.Going.TheVariants.{On}
 use Rattle.run.specs.declared.Machine.{Machine}
 use Rattle.endless.proofs.Phases.{Fit}
 use Rattle.invariants.specs.Runs.{RunOf, move_at}
@@ -94,7 +94,7 @@ within_next state read k w n j a b =
 
 module _ {T I : List ℕ} {taking : ℕ → ℕ} {state : ℕ → Machine} (r : RunOf T I taking state)
     (some : 1 ≤ processes_of T) (few : processes_of T < 65535) (read : ℕ)
-    (on : (k : ℕ) → read ≤ k → WithinScan state read k → (move_at T I taking state k).going ≡ On) where
+    (on : (k : ℕ) → read ≤ k → WithinScan state read k → (move_at T I taking state k).stopped ≡ None) where
   -- ---- a turn, from a state in it on
   record TurnDone (p u k : ℕ) : Type 0 where
     next : ℕ
@@ -206,7 +206,7 @@ turns_ordered (turn h t ts) = let a = t.some in let b = turns_ordered ts in omeg
 -- So the moves between two such states, with none between, are a scan, if they go on.
 pub between_outputs : {T I : List ℕ} {taking : ℕ → ℕ} {state : ℕ → Machine} (r : RunOf T I taking state) →
     1 ≤ processes_of T → processes_of T < 65535 →
-    (read end : ℕ) → read < end → ((k : ℕ) → read ≤ k → k < end → (move_at T I taking state k).going ≡ On) →
+    (read end : ℕ) → read < end → ((k : ℕ) → read ≤ k → k < end → (move_at T I taking state k).stopped ≡ None) →
     (state read).phase ≡ Output → (state end).phase ≡ Output →
     ((k : ℕ) → read < k → k < end → ¬ ((state k).phase ≡ Output)) →
     (write : ℕ) × ScanOf T state read write × (end ≡ suc write)

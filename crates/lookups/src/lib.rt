@@ -15,8 +15,8 @@ pub struct TestRow {
     pub b: u16,
 }
 
-// An action as its six numbers.
-#[derive(Clone, Copy)]
+// An action as its six numbers, each 0 by default.
+#[derive(Clone, Copy, Default)]
 pub struct ActionRow {
     pub op: u16,
     pub x: u16,
@@ -113,9 +113,9 @@ pub fn action_from(table: &[u16], state: usize, a: u16) -> ActionRow
     ensures { result ≡ action_from table.now state a }
 {
     if table.len() <= state {
-        return places::no_action();
+        return ActionRow::default();
     }
-    let at = state + 1 + 6 * places::before(a) as usize;
+    let at = state + 1 + 6 * a.saturating_sub(1) as usize;
     places::row_from(table, at)
 }
 

@@ -1,6 +1,6 @@
 // Where things stand in the numbers of a table. The bounds keep the sums within their type.
 ghost use Rattle.std.specs.Prelude.{◌≡◌, ℕ, ◌+◌, ◌-◌, ◌*◌, ◌^◌, ◌≤◌, ◌<◌, length, get_or};
-ghost use Rattle.lookups.specs.Places.{test_place, processes_place, after_states, after_processes, process_place, state_place, no_action, row_from};
+ghost use Rattle.lookups.specs.Places.{test_place, processes_place, after_states, after_processes, process_place, state_place, row_from};
 
 use crate::ActionRow;
 
@@ -8,20 +8,7 @@ use crate::ActionRow;
 pub fn number(table: &[u16], at: usize) -> u16
     ensures { result ≡ get_or table.now at 0 }
 {
-    if at < table.len() {
-        return table[at];
-    }
-    0
-}
-
-// One less, and 0 of 0.
-pub fn before(n: u16) -> u16
-    ensures { result ≡ n - 1 }
-{
-    if n == 0 {
-        return 0;
-    }
-    n - 1
+    table.get(at).copied().unwrap_or(0)
 }
 
 // Where test k begins.
@@ -47,11 +34,9 @@ fn after_states(table: &[u16], from: usize, k: u16) -> usize
     ensures { (result ≡ after_states table.now k from) × (result ≤ from + 393211 * k) }
 {
     let mut at = from;
-    let mut left = k;
-    while 0 < left {
+    for _ in 0..k {
         let actions = number(table, at) as usize;
         at = at + 1 + 6 * actions;
-        left = left - 1;
     }
     at
 }
@@ -62,11 +47,9 @@ fn after_processes(table: &[u16], from: usize, k: u16) -> usize
     ensures { (result ≡ after_processes table.now k from) × (result ≤ from + 2 ^ 35 * k) }
 {
     let mut at = from;
-    let mut left = k;
-    while 0 < left {
+    for _ in 0..k {
         let states = number(table, at);
         at = after_states(table, at + 1, states);
-        left = left - 1;
     }
     at
 }
@@ -76,7 +59,7 @@ pub fn process_place(table: &[u16], p: u16) -> usize
     ensures { (result ≡ process_place table.now p) × (result < 2 ^ 52) }
 {
     let from = processes_place(table) + 1;
-    after_processes(table, from, before(p))
+    after_processes(table, from, p.saturating_sub(1))
 }
 
 // Where state s of process p has its count of actions.
@@ -84,21 +67,7 @@ pub fn state_place(table: &[u16], p: u16, s: u16) -> usize
     ensures { (result ≡ state_place table.now p s) × (result < 2 ^ 57) }
 {
     let from = process_place(table, p) + 1;
-    after_states(table, from, before(s))
-}
-
-// What is found of an action that is not there.
-pub fn no_action() -> ActionRow
-    ensures { result ≡ no_action }
-{
-    ActionRow {
-        op: 0,
-        x: 0,
-        y: 0,
-        guard: 0,
-        next_if: 0,
-        next_else: 0,
-    }
+    after_states(table, from, s.saturating_sub(1))
 }
 
 // The six numbers from a place on.

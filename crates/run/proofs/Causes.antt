@@ -7,8 +7,10 @@ use mathlib.Core.Bool.{Bool, true, false}
 use mathlib.Core.List.{List}
 use lib.Dec.{ltb, eqb}
 use borrow.Author.Tests.{le-ltb}
+use Rattle.std.specs.Prelude.{Option, None, Some}
 use Rattle.coding.specs.Code.{code_at}
 use Rattle.coding.specs.Refusal.{number_of}
+use Rattle.coding.specs.declared.Cause.{Cause}
 use Rattle.coding.specs.declared.Cause.TheVariants.{LongRun}
 use Rattle.coding.specs.declared.Answer.{Answer}
 use Rattle.coding.specs.declared.Answer.TheVariants.{Count, Refused as NotRead}
@@ -24,8 +26,6 @@ use Rattle.run.specs.Limits.{longest_turn, last_state, trace_room}
 use Rattle.run.specs.Moves.{begun, step_of, too_long, unruled, before, unless, after_action, action_move, move_of}
 use Rattle.run.specs.Running.{recorded_move, stopped_at, reached, to_return, to_end, halted, closing, ran_of}
 use Rattle.run.specs.Trace.{numbers_in, by_inputs, by_table, run_of}
-use Rattle.run.specs.declared.Going.{Going}
-use Rattle.run.specs.declared.Going.TheVariants.{On, Stopped}
 use Rattle.run.specs.declared.Machine.{Machine}
 use Rattle.run.specs.declared.Moved.{Moved}
 use Rattle.run.specs.declared.Reached.{Reached}
@@ -40,9 +40,9 @@ pub data NotRun : ℕ → Type 0 where
   not_closed : NotRun 8
 
 -- What is refused is refused by one of these numbers; a table or inputs that are not read, by one of theirs.
-abbrev NamedGoing : Going → Type 0
-NamedGoing On = Unit {0}
-NamedGoing (Stopped cause) = NotRun (number_of cause)
+abbrev NamedStop : Option Cause → Type 0
+NamedStop None = Unit {0}
+NamedStop (Some cause) = NotRun (number_of cause)
 
 abbrev pub NamedRan : Ran → Type 0
 NamedRan (Closed n start) = Unit {0}
@@ -54,69 +54,69 @@ by_test P true x y p q = p
 by_test P false x y p q = q
 
 -- ---- one move
-named_long : (used : ℕ) → NamedGoing (too_long used)
+named_long : (used : ℕ) → NamedStop (too_long used)
 unfolding too_long
-named_long used = by_test NamedGoing (ltb used longest_turn) _ _ tt long_turn
+named_long used = by_test NamedStop (ltb used longest_turn) _ _ tt long_turn
 
-named_unruled : (o : Outcome) → NamedGoing (unruled o)
+named_unruled : (o : Outcome) → NamedStop (unruled o)
 named_unruled Stays = tt
 named_unruled Passes = tt
 named_unruled NoRule = no_rule
 
-named_before : (a b : Going) → NamedGoing a → NamedGoing b → NamedGoing (before a b)
-named_before On b h k = k
-named_before (Stopped cause) b h k = h
+named_before : (a b : Option Cause) → NamedStop a → NamedStop b → NamedStop (before a b)
+named_before None b h k = k
+named_before (Some cause) b h k = h
 
-named_unless : (g : Going) (m next : Machine) → NamedGoing g → NamedGoing (unless g m next).going
-named_unless On m next h = tt
-named_unless (Stopped cause) m next h = h
+named_unless : (g : Option Cause) (m next : Machine) → NamedStop g → NamedStop (unless g m next).stopped
+named_unless None m next h = tt
+named_unless (Some cause) m next h = h
 
-named_action : (T : List ℕ) (m : Machine) → NamedGoing (action_move T m).going
+named_action : (T : List ℕ) (m : Machine) → NamedStop (action_move T m).stopped
 unfolding action_move
 named_action T m =
     let a = step_of T m.state.counter m.state in
     named_unless (before (too_long m.used) (unruled a.outcome)) m (after_action m a.outcome a.state)
     (named_before (too_long m.used) (unruled a.outcome) (named_long m.used) (named_unruled a.outcome))
 
-named_move : (T I : List ℕ) (done : ℕ) (m : Machine) → NamedGoing (move_of T I done m).going
+named_move : (T I : List ℕ) (done : ℕ) (m : Machine) → NamedStop (move_of T I done m).stopped
 unfolding move_of
 named_move T I done m =
-    by_test (λ (x : Moved). NamedGoing x.going) (eqb m.state.counter 0) _ _ tt
-    (by_test (λ (x : Moved). NamedGoing x.going) (ltb (processes_of T) m.state.counter) _ _ tt (named_action T m))
+    by_test (λ (x : Moved). NamedStop x.stopped) (eqb m.state.counter 0) _ _ tt
+    (by_test (λ (x : Moved). NamedStop x.stopped) (ltb (processes_of T) m.state.counter) _ _ tt (named_action T m))
 
 -- ---- the scans
 abbrev NamedReached : Reached → Type 0
-NamedReached r = NamedGoing r.going
+NamedReached r = NamedStop r.stopped
 
-abbrev on_going : Going → Reached → ℕ → Machine → Reached
-on_going g rest n m = elim g [ On ↦ rest | Stopped cause ↦ stopped_at cause n m ]
+abbrev on_going : Option Cause → Reached → ℕ → Machine → Reached
+on_going g rest n m = elim g [ None ↦ rest | Some cause ↦ stopped_at cause n m ]
 
-named_on : (g : Going) (rest : Reached) (n : ℕ) (m : Machine) → NamedGoing g → NamedReached rest →
+named_on : (g : Option Cause) (rest : Reached) (n : ℕ) (m : Machine) → NamedStop g → NamedReached rest →
     NamedReached (on_going g rest n m)
-named_on On rest n m h k = k
-named_on (Stopped cause) rest n m h k = h
+named_on None rest n m h k = k
+named_on (Some cause) rest n m h k = h
 
 named_reached : (T I : List ℕ) (k more n : ℕ) (m : Machine) → NamedReached (reached T I k more n m)
 unfolding reached
 named_reached T I k zero n m =
     by_test NamedReached (ltb m.scan k) _ _
-    (named_on (recorded_move T I m).going (stopped_at LongRun n m) n m (named_move T I m.scan m) long_run) tt
+    (named_on (recorded_move T I m).stopped (stopped_at LongRun n m) n m (named_move T I m.scan m) long_run) tt
 named_reached T I k (suc more) n m =
     let x = recorded_move T I m in
     by_test NamedReached (ltb m.scan k) _ _
-    (named_on x.going (reached T I k more (n + 1) x.machine) n m (named_move T I m.scan m)
+    (named_on x.stopped (reached T I k more (n + 1) x.machine) n m (named_move T I m.scan m)
     (named_reached T I k more (n + 1) x.machine)) tt
 
 named_closing : (q : ℕ) (back last : Reached) → NamedRan (closing q back last)
 unfolding closing
 named_closing q back last = by_test NamedRan (same_state last.machine.state back.machine.state) _ _ tt not_closed
 
-abbrev ending : Going → Machine → Ran → Ran
-ending g m rest = elim g [ Stopped cause ↦ halted cause m | On ↦ rest ]
+abbrev ending : Option Cause → Machine → Ran → Ran
+ending g m rest = elim g [ Some cause ↦ halted cause m | None ↦ rest ]
 
-named_ending : (g : Going) (m : Machine) (rest : Ran) → NamedGoing g → NamedRan rest → NamedRan (ending g m rest)
-named_ending On m rest h k = k
-named_ending (Stopped cause) m rest h k = h
+named_ending : (g : Option Cause) (m : Machine) (rest : Ran) → NamedStop g → NamedRan rest → NamedRan (ending g m rest)
+named_ending None m rest h k = k
+named_ending (Some cause) m rest h k = h
 
 module _ (T I : List ℕ) where
   named_return : NamedReached (to_return T I)
@@ -134,9 +134,9 @@ module _ (T I : List ℕ) where
   named_ran =
       let back = to_return T I in
       let last = to_end T I in
-      named_ending back.going back.machine
-      (ending last.going last.machine (closing (scans_of I) back last)) named_return
-      (named_ending last.going last.machine (closing (scans_of I) back last) named_end
+      named_ending back.stopped back.machine
+      (ending last.stopped last.machine (closing (scans_of I) back last)) named_return
+      (named_ending last.stopped last.machine (closing (scans_of I) back last) named_end
       (named_closing (scans_of I) back last))
 
 -- ---- the whole run

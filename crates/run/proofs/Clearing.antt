@@ -1,12 +1,10 @@
--- A buffer cleared from a place on, element by element; and what a walk leaves once it is cleared.
+-- A buffer cleared from a place on, and what a walk leaves once it is cleared.
 -- Assumes nothing.
-use Prim.Native.Nat.{ℕ, zero, suc, ◌+◌, ◌-◌, ◌≤◌, ◌<◌}
-use mathlib.Core.Path.{◌≡◌, sym, ap, ◌∙◌}
-use mathlib.Core.List.{List, ◌++◌, append-nil}
-use native.Mathlib.Numerals.{add-one}
+use Prim.Native.Nat.{ℕ, zero, suc, ◌+◌, ◌-◌, ◌≤◌}
+use mathlib.Core.Path.{◌≡◌, sym, ap}
+use mathlib.Core.List.{List, ◌++◌}
 use native.Mathlib.Omega.{arith}
-use lib.ListN.{length, take, drop, set, replicate, length-set, length-replicate}
-use lib.Seq.{take_all, take-suc-set, append_snoc}
+use lib.ListN.{length, take, drop, replicate, length-replicate}
 use Rattle.coding.specs.Room.{over}
 use Rattle.coding.proofs.Bytes.{over_eq, over_length}
 use Rattle.coding.proofs.Grammars.{front}
@@ -14,17 +12,6 @@ use Rattle.run.specs.Working.Walking.{cleared}
 
 abbrev pub zeros : ℕ → List ℕ
 zeros n = replicate n 0
-
--- one element more
-pub clear_one : (d : List ℕ) (i : ℕ) → i < length d → cleared (i + 1) (set d i 0) ≡ cleared i d
-unfolding cleared
-clear_one d i h =
-    let e : length d - i ≡ suc (length d - suc i) = omega arith in
-    rw (add-one i, length-set, e, take-suc-set d i 0 h) (append_snoc (take i d) 0 (zeros (length d - suc i)))
-
-pub clear_end : (d : List ℕ) (i : ℕ) → length d ≤ i → cleared i d ≡ d
-unfolding cleared
-clear_end d i h = let e : length d - i ≡ 0 = omega arith in rw (e, take_all i d h) (append-nil d)
 
 pub clear_whole : (d : List ℕ) → cleared 0 d ≡ zeros (length d)
 unfolding cleared
@@ -44,11 +31,3 @@ clear_behind d xs n e h =
     let s : 0 + length xs ≡ length xs = omega arith in
     rw (f, over_length d 0 xs, over_eq (zeros (length d)) 0 xs z, s)
     (ap (λ (l : List ℕ). xs ++ l) (rw (← e) (sym (drop_zeros (length xs) (length d)))))
-
--- ---- the loop: what is left to be cleared gives the whole
-module _ (d t : List ℕ) (at i : ℕ) (l : (length t ≡ length d) × (cleared i t ≡ cleared at d)) where
-  pub clear_again : i < length t → (length (set t i 0) ≡ length d) × (cleared (i + 1) (set t i 0) ≡ cleared at d)
-  clear_again h = (rw length-set l.0, clear_one t i h ∙ l.1)
-
-  pub clear_done : length t ≤ i → t ≡ cleared at d
-  clear_done h = sym (clear_end t i h) ∙ l.1

@@ -6,6 +6,7 @@ use mathlib.Core.Bool.{Bool, true, false}
 use mathlib.Core.List.{List, ◌++◌}
 use native.Mathlib.Omega.{arith}
 use lib.ListN.{length}
+use Rattle.std.specs.Prelude.{None, Some}
 use Rattle.coding.specs.Room.{over}
 use Rattle.coding.specs.declared.Cause.{Cause}
 use Rattle.coding.specs.declared.Cause.TheVariants.{NotClosed}
@@ -19,7 +20,6 @@ use Rattle.run.specs.Moves.{begun}
 use Rattle.run.specs.Running.{to_return, to_end, halted, closing, ran_of}
 use Rattle.run.specs.Trace.{path, trace_bytes, left_in}
 use Rattle.run.specs.Working.Walking.{Walked, Small, cleared_by}
-use Rattle.run.specs.declared.Going.TheVariants.{On, Stopped}
 use Rattle.run.specs.declared.Machine.{Machine}
 use Rattle.run.specs.declared.Reached.{Reached}
 use Rattle.run.specs.declared.Ran.{Ran}
@@ -29,9 +29,9 @@ use Rattle.run.proofs.Clearing.{clear_whole, clear_behind}
 
 -- A run that stops has scans left, so the scan that it is in has a number of 16 bits.
 pub in_scan : (T I : List ℕ) (k from : ℕ) (m : Machine) (d : List ℕ) (r : Reached) (e : List ℕ) → Came T I k from m d r e →
-    (cause : Cause) → r.going ≡ Stopped cause → k < 65536 → r.machine.scan < 65535
+    (cause : Cause) → r.stopped ≡ Some cause → k < 65536 → r.machine.scan < 65535
 in_scan T I k from m d r e came cause g small =
-    let h : Below T I k (Stopped cause) r.machine = rw (← came.0, g) at (below T I k (last_state - from) from m) in
+    let h : Below T I k (Some cause) r.machine = rw (← came.0, g) at (below T I k (last_state - from) from m) in
     omega arith
 
 -- ---- the closing, by what the comparison of the two states tells
@@ -48,9 +48,9 @@ module _ (q : ℕ) (back last : Reached) (same : Bool) (told : same ≡ same_sta
 -- by what the two parts came to
 abbrev ran_by : List ℕ → Reached → Reached → Ran
 ran_by I back last =
-    elim back.going [
-      | Stopped cause ↦ halted cause back.machine
-      | On ↦ elim last.going [ Stopped cause ↦ halted cause last.machine | On ↦ closing (scans_of I) back last ]
+    elim back.stopped [
+      | Some cause ↦ halted cause back.machine
+      | None ↦ elim last.stopped [ Some cause ↦ halted cause last.machine | None ↦ closing (scans_of I) back last ]
     ]
 
 module _ (T I : List ℕ) (back last : Reached) (is_back : back ≡ to_return T I) where
@@ -58,14 +58,14 @@ module _ (T I : List ℕ) (back last : Reached) (is_back : back ≡ to_return T 
   unfolding ran_of
   ran_is is_last = ap (λ (r : Reached). ran_by I r last) is_back ∙ ap (λ (r : Reached). ran_by I (to_return T I) r) is_last
 
-  stops_first : (cause : Cause) → back.going ≡ Stopped cause → last ≡ to_end T I → halted cause back.machine ≡ ran_of T I
+  stops_first : (cause : Cause) → back.stopped ≡ Some cause → last ≡ to_end T I → halted cause back.machine ≡ ran_of T I
   stops_first cause g is_last = rw g at (ran_is is_last)
 
-  module _ (is_last : last ≡ to_end T I) (on : back.going ≡ On) where
-    stops_later : (cause : Cause) → last.going ≡ Stopped cause → halted cause last.machine ≡ ran_of T I
+  module _ (is_last : last ≡ to_end T I) (on : back.stopped ≡ None) where
+    stops_later : (cause : Cause) → last.stopped ≡ Some cause → halted cause last.machine ≡ ran_of T I
     stops_later cause g = rw (on, g) at (ran_is is_last)
 
-    goes_round : last.going ≡ On → closing (scans_of I) back last ≡ ran_of T I
+    goes_round : last.stopped ≡ None → closing (scans_of I) back last ≡ ran_of T I
     unfolding closing
     goes_round g = rw (on, g) at (ran_is is_last)
 
@@ -84,7 +84,7 @@ module _ (T I : List ℕ) (b : ℕ) (m : Machine) (d : List ℕ) (back : Reached
   same_size = rw came.2 (over_length d 0 (path T I (back.number - 0) m))
 
   -- where it stops before the return scan is done
-  pub halts_first : b ≡ return_of I → m ≡ begun most_processes → (cause : Cause) → back.going ≡ Stopped cause →
+  pub halts_first : b ≡ return_of I → m ≡ begun most_processes → (cause : Cause) → back.stopped ≡ Some cause →
       (halted cause back.machine ≡ ran_of T I) × (length e ≡ length d)
   halts_first s t cause g = (stops_first T I back (to_end T I) (is_return s t) cause g refl, same_size)
 
@@ -112,13 +112,13 @@ module _ (T I : List ℕ) (b : ℕ) (m : Machine) (d : List ℕ) (back : Reached
     closes s true = (came_on.1, rw s at whole_trace)
     closes s false = all_same_size
 
-    module _ (is_b : b ≡ return_of I) (is_m : m ≡ begun most_processes) (is_q : q ≡ scans_of I) (on : back.going ≡ On) where
+    module _ (is_b : b ≡ return_of I) (is_m : m ≡ begun most_processes) (is_q : q ≡ scans_of I) (on : back.stopped ≡ None) where
       -- where it stops after that
-      pub halts_later : (cause : Cause) → last.going ≡ Stopped cause → (halted cause last.machine ≡ ran_of T I) × (length f ≡ length d)
+      pub halts_later : (cause : Cause) → last.stopped ≡ Some cause → (halted cause last.machine ≡ ran_of T I) × (length f ≡ length d)
       halts_later cause g = (stops_later T I back last (is_return is_b is_m) (is_end is_q (is_return is_b is_m)) on cause g, all_same_size)
 
       -- where it does not stop
-      pub goes_through : last.going ≡ On → (closing q back last ≡ ran_of T I) × Walked (closing q back last) T I d f
+      pub goes_through : last.stopped ≡ None → (closing q back last ≡ ran_of T I) × Walked (closing q back last) T I d f
       unfolding closing
       goes_through g =
           (rw is_q (goes_round T I back last (is_return is_b is_m) (is_end is_q (is_return is_b is_m)) on g), closes is_m (same_state last.machine.state back.machine.state))

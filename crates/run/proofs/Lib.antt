@@ -1,6 +1,5 @@
 pub mod Onward
 pub mod Clearing
-pub mod Turns
 pub mod Closing
 pub mod Readings
 pub mod Unique

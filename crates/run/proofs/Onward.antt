@@ -8,6 +8,7 @@ use native.Mathlib.Omega.{arith}
 use lib.ListN.{length, length-append}
 use lib.Dec.{ltb}
 use borrow.Author.Tests.{ltb-true}
+use Rattle.std.specs.Prelude.{Option, None, Some}
 use Rattle.coding.specs.Room.{over}
 use Rattle.coding.specs.declared.Cause.{Cause}
 use Rattle.coding.specs.declared.Cause.TheVariants.{LongRun}
@@ -20,20 +21,18 @@ use Rattle.scan.proofs.Position.{bytes_length}
 use Rattle.run.specs.Limits.{last_state}
 use Rattle.run.specs.Running.{recorded_move, here, stopped_at, reached}
 use Rattle.run.specs.Trace.{path}
-use Rattle.run.specs.declared.Going.{Going}
-use Rattle.run.specs.declared.Going.TheVariants.{On, Stopped}
 use Rattle.run.specs.declared.Machine.{Machine}
 use Rattle.run.specs.declared.Moved.{Moved}
 use Rattle.run.specs.declared.Reached.{Reached}
 
 -- What a turn comes to: `on` where the run goes on.
-abbrev chosen : Bool → Going → Reached → ℕ → Machine → Reached
-chosen t g on n m = pick t (elim g [ On ↦ on | Stopped cause ↦ stopped_at cause n m ]) (here n m)
+abbrev chosen : Bool → Option Cause → Reached → ℕ → Machine → Reached
+chosen t g on n m = pick t (elim g [ None ↦ on | Some cause ↦ stopped_at cause n m ]) (here n m)
 
 module _ (P : Reached → Type 0) (n : ℕ) (m : Machine) (on : Reached) where
-  in_all : (t : Bool) (g : Going) → (t ≡ true → P on) → ((cause : Cause) → t ≡ true → P (stopped_at cause n m)) → P (here n m) → P (chosen t g on n m)
-  in_all true On h s e = h refl
-  in_all true (Stopped cause) h s e = s cause refl
+  in_all : (t : Bool) (g : Option Cause) → (t ≡ true → P on) → ((cause : Cause) → t ≡ true → P (stopped_at cause n m)) → P (here n m) → P (chosen t g on n m)
+  in_all true None h s e = h refl
+  in_all true (Some cause) h s e = s cause refl
   in_all false g h s e = e
 
 module _ (T I : List ℕ) (k : ℕ) where
@@ -44,16 +43,16 @@ module _ (T I : List ℕ) (k : ℕ) where
     turn_done zero e = rw e
     turn_done (suc more) e = rw e
 
-    pub turn_stops : (more : ℕ) (cause : Cause) → ltb m.scan k ≡ true → (recorded_move T I m).going ≡ Stopped cause → reached T I k more n m ≡ stopped_at cause n m
+    pub turn_stops : (more : ℕ) (cause : Cause) → ltb m.scan k ≡ true → (recorded_move T I m).stopped ≡ Some cause → reached T I k more n m ≡ stopped_at cause n m
     unfolding reached
     turn_stops zero cause e g = rw (e, g)
     turn_stops (suc more) cause e g = rw (e, g)
 
-    pub turn_spent : ltb m.scan k ≡ true → (recorded_move T I m).going ≡ On → reached T I k 0 n m ≡ stopped_at LongRun n m
+    pub turn_spent : ltb m.scan k ≡ true → (recorded_move T I m).stopped ≡ None → reached T I k 0 n m ≡ stopped_at LongRun n m
     unfolding reached
     turn_spent e g = rw (e, g)
 
-    pub turn_on : (more : ℕ) → ltb m.scan k ≡ true → (recorded_move T I m).going ≡ On →
+    pub turn_on : (more : ℕ) → ltb m.scan k ≡ true → (recorded_move T I m).stopped ≡ None →
         reached T I k (suc more) n m ≡ reached T I k more (n + 1) (recorded_move T I m).machine
     unfolding reached
     turn_on more e g = rw (reached, e, g)
@@ -62,25 +61,25 @@ module _ (T I : List ℕ) (k : ℕ) where
   pub number_up : (more n : ℕ) (m : Machine) → (n ≤ (reached T I k more n m).number) × ((reached T I k more n m).number ≤ n + more)
   unfolding reached
   number_up zero n m =
-      in_all (λ r. (n ≤ r.number) × (r.number ≤ n + 0)) n m (stopped_at LongRun n m) (ltb m.scan k) (recorded_move T I m).going
+      in_all (λ r. (n ≤ r.number) × (r.number ≤ n + 0)) n m (stopped_at LongRun n m) (ltb m.scan k) (recorded_move T I m).stopped
       (λ e. (omega arith, omega arith)) (λ cause e. (omega arith, omega arith)) (omega arith, omega arith)
   number_up (suc more) n m =
       let h = number_up more (n + 1) (recorded_move T I m).machine in
-      in_all (λ r. (n ≤ r.number) × (r.number ≤ n + suc more)) n m (reached T I k more (n + 1) (recorded_move T I m).machine) (ltb m.scan k) (recorded_move T I m).going
+      in_all (λ r. (n ≤ r.number) × (r.number ≤ n + suc more)) n m (reached T I k more (n + 1) (recorded_move T I m).machine) (ltb m.scan k) (recorded_move T I m).stopped
       (λ e. (omega (arith, h.0), omega (arith, h.1))) (λ cause e. (omega arith, omega arith)) (omega arith, omega arith)
 
   -- a run that is stopped was still to go on
-  abbrev pub Below : Going → Machine → Type 0
-  Below On m = Unit {0}
-  Below (Stopped cause) m = m.scan < k
+  abbrev pub Below : Option Cause → Machine → Type 0
+  Below None m = Unit {0}
+  Below (Some cause) m = m.scan < k
 
-  pub below : (more n : ℕ) (m : Machine) → Below (reached T I k more n m).going (reached T I k more n m).machine
+  pub below : (more n : ℕ) (m : Machine) → Below (reached T I k more n m).stopped (reached T I k more n m).machine
   unfolding reached
   below zero n m =
-      in_all (λ r. Below r.going r.machine) n m (stopped_at LongRun n m) (ltb m.scan k) (recorded_move T I m).going
+      in_all (λ r. Below r.stopped r.machine) n m (stopped_at LongRun n m) (ltb m.scan k) (recorded_move T I m).stopped
       (λ e. ltb-true _ _ e) (λ cause e. ltb-true _ _ e) tt
   below (suc more) n m =
-      in_all (λ r. Below r.going r.machine) n m (reached T I k more (n + 1) (recorded_move T I m).machine) (ltb m.scan k) (recorded_move T I m).going
+      in_all (λ r. Below r.stopped r.machine) n m (reached T I k more (n + 1) (recorded_move T I m).machine) (ltb m.scan k) (recorded_move T I m).stopped
       (λ e. below more (n + 1) (recorded_move T I m).machine) (λ cause e. ltb-true _ _ e) tt
 
 -- ---- the bytes of a path
@@ -123,16 +122,12 @@ module _ (T I : List ℕ) where
     pub path_join : (more n : ℕ) (m : Machine) → Joined to n m (reached T I k more n m)
     unfolding reached
     path_join zero n m =
-        in_all (Joined to n m) n m (stopped_at LongRun n m) (ltb m.scan k) (recorded_move T I m).going
+        in_all (Joined to n m) n m (stopped_at LongRun n m) (ltb m.scan k) (recorded_move T I m).stopped
         (λ e h. joined_here n m) (λ cause e h. joined_here n m) (λ h. joined_here n m)
     path_join (suc more) n m =
-        in_all (Joined to n m) n m (reached T I k more (n + 1) (recorded_move T I m).machine) (ltb m.scan k) (recorded_move T I m).going
+        in_all (Joined to n m) n m (reached T I k more (n + 1) (recorded_move T I m).machine) (ltb m.scan k) (recorded_move T I m).stopped
         (λ e. joined_on n m (reached T I k more (n + 1) (recorded_move T I m).machine) (number_up T I k more (n + 1) (recorded_move T I m).machine).0 (path_join more (n + 1) (recorded_move T I m).machine))
         (λ cause e h. joined_here n m) (λ h. joined_here n m)
-
--- scans are counted in 16 bits, so one that is still to come has a number
-pub still : (m : Machine) (k : ℕ) → ltb m.scan k ≡ true → k < 65536 → m.scan < 65535
-still m k e h = omega (arith, ltb-true m.scan k e)
 
 -- The atoms of the state that is left are known, so its bytes are put.
 abbrev pub Known : List ℕ → Machine → List ℕ → Type 0
@@ -160,9 +155,6 @@ pub record Left (T I : List ℕ) (k from : ℕ) (machine : Machine) (d : List �
   pub bytes : over e (n * 5) (path T I ((wholly T I k n m).number - n) m) ≡ over d (from * 5) (path T I ((wholly T I k n m).number - from) machine)
 
 module _ (T I : List ℕ) (k from : ℕ) (machine : Machine) (d : List ℕ) where
-  pub begin : from ≤ last_state → Left T I k from machine d from machine d
-  begin h = record { same = refl; low = omega arith; high = h; size = refl; bytes = refl }
-
   module _ (n : ℕ) (m : Machine) (e : List ℕ) (l : Left T I k from machine d n m e) where
     -- where the answer is at this state
     ended : (r : Reached) → r.number ≡ n → wholly T I k n m ≡ r → Came T I k from machine d r e
@@ -174,10 +166,10 @@ module _ (T I : List ℕ) (k from : ℕ) (machine : Machine) (d : List ℕ) wher
     finish h = ended (here n m) refl (turn_done T I k n m (last_state - n) h)
 
     module _ (h : ltb m.scan k ≡ true) (x : Moved) (made : x ≡ recorded_move T I m) where
-      pub stopped : (cause : Cause) → x.going ≡ Stopped cause → Came T I k from machine d (stopped_at cause n m) e
+      pub stopped : (cause : Cause) → x.stopped ≡ Some cause → Came T I k from machine d (stopped_at cause n m) e
       stopped cause g = ended (stopped_at cause n m) refl (turn_stops T I k n m (last_state - n) cause h (rw made at g))
 
-      module _ (on : x.going ≡ On) where
+      module _ (on : x.stopped ≡ None) where
         pub spent : last_state ≤ n → Came T I k from machine d (stopped_at LongRun n m) e
         spent far =
             let high = l.high in

@@ -3,11 +3,11 @@
 use Prim.Native.Nat.{ℕ, ◌<◌}
 use mathlib.Core.Path.{◌≡◌, refl}
 use mathlib.Core.Bool.{Bool, true, false}
-use mathlib.Core.List.{List, [], ◌∷◌}
+use mathlib.Core.List.{List}
 use lib.Dec.{ltb}
 use borrow.Author.Tests.{eq-eqb, ne_eqb, ltb-true}
-use denote.Enum.Declared.{tag_of}
-use types.Run.{OneOf, miss}
+use Rattle.std.specs.Prelude.{Option, None, Some}
+use Rattle.std.specs.Option.{option_or}
 use Rattle.coding.specs.declared.Cause.{Cause}
 use Rattle.coding.specs.declared.Cause.TheVariants.{LongTurn}
 use Rattle.ranges.specs.Values.{pick}
@@ -21,14 +21,9 @@ use Rattle.controller.specs.declared.Controller.{Controller}
 use Rattle.controller.specs.declared.Action.{Action}
 use Rattle.controller.specs.declared.Action.TheVariants.{Skip, End}
 use Rattle.controller.specs.declared.Acted.{Acted}
-use Rattle.controller.specs.declared.Outcome.{Outcome}
-use Rattle.controller.specs.declared.Outcome.TheVariants.{Stays, Passes, NoRule}
-use Rattle.controller.specs.contracts.Outcome as outcome
 use Rattle.scan.specs.Guards.{next_of}
 use Rattle.run.specs.Limits.{longest_turn}
 use Rattle.run.specs.Moves.{to, stops, active, step_of, after_action, too_long, unruled, before, action_move}
-use Rattle.run.specs.declared.Going.{Going}
-use Rattle.run.specs.declared.Going.TheVariants.{On, Stopped}
 use Rattle.run.specs.declared.Machine.{Machine}
 
 -- ---- the action of process i, whose record is p
@@ -47,38 +42,34 @@ module _ (T : List ℕ) (i : ℕ) (c : Controller) (p : Process) (a : Bool) (own
   acts e h state at r row next goes action does = rw (← own, ← told, e, ne_eqb _ _ h, ← at, ← row, ← goes, ← does) refl
 
 -- ---- whether the run goes on
--- the outcomes by their order, but the one that no rule has
-abbrev ruled : List ℕ
-ruled = 0 ∷ 1 ∷ []
-
-pub goes_on : (o : Outcome) → OneOf ruled (tag_of outcome.the_type o) → On ≡ unruled o
-goes_on Stays k = refl
-goes_on Passes k = refl
-goes_on NoRule k = absurd (miss ruled 2 (tt {0}) k)
+-- The first of two looks that stops the run, as the library's word for it.
+or_before : (first later : Option Cause) → option_or first later ≡ before first later
+or_before (Some cause) later = refl
+or_before None later = refl
 
 -- A look that the run passes finds the turn short.
-abbrev Passed : ℕ → Going → Type 0
-Passed used On = used < longest_turn
-Passed used (Stopped cause) = Unit {0}
+abbrev Passed : ℕ → Option Cause → Type 0
+Passed used None = used < longest_turn
+Passed used (Some cause) = Unit {0}
 
-pub passed : (used : ℕ) (later : Going) → Passed used (before (too_long used) later)
+pub passed : (used : ℕ) (later : Option Cause) → Passed used (before (too_long used) later)
 unfolding too_long
 passed used later = go (ltb used longest_turn) refl later
   where
-    go : (b : Bool) → ltb used longest_turn ≡ b → (g : Going) → Passed used (before (pick b On (Stopped LongTurn)) g)
-    go true e On = ltb-true _ _ e
-    go true e (Stopped cause) = tt
+    go : (b : Bool) → ltb used longest_turn ≡ b → (g : Option Cause) → Passed used (before (pick b None (Some LongTurn)) g)
+    go true e None = ltb-true _ _ e
+    go true e (Some cause) = tt
     go false e g = tt
 
-pub short : (used : ℕ) (long missing g : Going) → long ≡ too_long used → g ≡ before long missing → g ≡ On → used < longest_turn
-short used long missing g l first e = rw (← l, ← first, e) at (passed used missing)
+pub short : (used : ℕ) (long missing g : Option Cause) → long ≡ too_long used → g ≡ option_or long missing → g ≡ None → used < longest_turn
+short used long missing g l first e = rw (← l, ← or_before long missing, ← first, e) at (passed used missing)
 
-module _ (T : List ℕ) (m : Machine) (a : Acted) (own : a ≡ step_of T m.state.counter m.state) (long missing g : Going)
-    (l : long ≡ too_long m.used) (u : missing ≡ unruled a.outcome) (first : g ≡ before long missing) where
-  pub stopped_by : (cause : Cause) → g ≡ Stopped cause → action_move T m ≡ stops cause m
+module _ (T : List ℕ) (m : Machine) (a : Acted) (own : a ≡ step_of T m.state.counter m.state) (long missing g : Option Cause)
+    (l : long ≡ too_long m.used) (u : missing ≡ unruled a.outcome) (first : g ≡ option_or long missing) where
+  pub stopped_by : (cause : Cause) → g ≡ Some cause → action_move T m ≡ stops cause m
   unfolding action_move
-  stopped_by cause e = rw (← own, ← l, ← u, ← first, e) refl
+  stopped_by cause e = rw (← own, ← l, ← u, ← or_before long missing, ← first, e) refl
 
-  pub moved_by : g ≡ On → action_move T m ≡ to (after_action m a.outcome a.state)
+  pub moved_by : g ≡ None → action_move T m ≡ to (after_action m a.outcome a.state)
   unfolding action_move
-  moved_by e = rw (← own, ← l, ← u, ← first, e) refl
+  moved_by e = rw (← own, ← l, ← u, ← or_before long missing, ← first, e) refl

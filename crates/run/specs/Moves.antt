@@ -1,7 +1,7 @@
 -- One move of the run: a read, an action of the process whose turn it is, or a write. A machine is a state of the run: the controller's state, its phase, the actions
 -- done so far in the turn and the scans done.
 -- Assumes nothing: these are definitions.
-use Rattle.std.specs.Prelude.{ℕ, ◌+◌, Bool, true, false, List, eqb, ltb}
+use Rattle.std.specs.Prelude.{ℕ, ◌+◌, Bool, true, false, List, eqb, ltb, Option, None, Some}
 use Rattle.coding.specs.declared.Cause.{Cause}
 use Rattle.coding.specs.declared.Cause.TheVariants.{NoRule as NoRuleFound, LongTurn}
 use Rattle.ranges.specs.Limits.{err_state}
@@ -19,8 +19,6 @@ use Rattle.controller.specs.declared.Action.TheVariants.{Skip, End}
 use Rattle.scan.specs.Guards.{next_of}
 use Rattle.scan.specs.Scanning.{read_of, write_of}
 use Rattle.run.specs.Limits.{longest_turn}
-use Rattle.run.specs.declared.Going.{Going}
-use Rattle.run.specs.declared.Going.TheVariants.{On, Stopped}
 use Rattle.run.specs.declared.Machine.{Machine}
 use Rattle.run.specs.declared.Moved.{Moved}
 
@@ -29,10 +27,10 @@ abbrev pub begun : ℕ → Machine
 begun processes = record { phase = Output; state = start processes; used = 0; scan = 0 }
 
 abbrev pub to : Machine → Moved
-to m = record { going = On; machine = m }
+to m = record { stopped = None; machine = m }
 
 abbrev pub stops : Cause → Machine → Moved
-stops cause m = record { going = Stopped cause; machine = m }
+stops cause m = record { stopped = Some cause; machine = m }
 
 -- Paper 003: "The stop and err are inactive states, and other states are active states."
 unfoldable pub active : ℕ → Bool
@@ -57,23 +55,23 @@ abbrev pub after_action : Machine → Outcome → Controller → Machine
 after_action m outcome c = record { phase = Exe; state = c; used = used_after outcome m.used; scan = m.scan }
 
 -- "after at most 64 actions, skip and end counted; a 65th is refusal 6"
-unfoldable pub too_long : ℕ → Going
-too_long used = pick (ltb used longest_turn) On (Stopped LongTurn)
+unfoldable pub too_long : ℕ → Option Cause
+too_long used = pick (ltb used longest_turn) None (Some LongTurn)
 
 -- "no rule for the action"
-abbrev pub unruled : Outcome → Going
-unruled Stays = On
-unruled Passes = On
-unruled NoRule = Stopped NoRuleFound
+abbrev pub unruled : Outcome → Option Cause
+unruled Stays = None
+unruled Passes = None
+unruled NoRule = Some NoRuleFound
 
 -- Of two looks the first that stops the run: "6, looked for before 5".
-abbrev pub before : Going → Going → Going
-before (Stopped cause) later = Stopped cause
-before On later = later
+abbrev pub before : Option Cause → Option Cause → Option Cause
+before (Some cause) later = Some cause
+before None later = later
 
-abbrev pub unless : Going → Machine → Machine → Moved
-unless (Stopped cause) m next = stops cause m
-unless On m next = to next
+abbrev pub unless : Option Cause → Machine → Machine → Moved
+unless (Some cause) m next = stops cause m
+unless None m next = to next
 
 unfoldable pub action_move : List ℕ → Machine → Moved
 action_move T m =

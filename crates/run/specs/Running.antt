@@ -1,6 +1,6 @@
 -- The run of a table over recorded inputs, and its closing. Document 01, Phases and the lasso, and Numbers of refusal 5 to 8.
 -- Assumes nothing: these are definitions.
-use Rattle.std.specs.Prelude.{ℕ, zero, suc, ◌+◌, ◌-◌, List, ltb}
+use Rattle.std.specs.Prelude.{ℕ, zero, suc, ◌+◌, ◌-◌, List, ltb, None, Some}
 use Rattle.coding.specs.declared.Cause.{Cause}
 use Rattle.coding.specs.declared.Cause.TheVariants.{CutShort, NotShortest, TooLarge, LeftOver, NotAllowed, NoSuchNode, PastLimit, NoRule, LongTurn, LongRun, NotClosed, BadTrace, ShortBuffer, NameAbsent}
 use Rattle.ranges.specs.Limits.{most_processes}
@@ -9,7 +9,6 @@ use Rattle.lookups.specs.Places.{scans_of, return_of}
 use Rattle.controller.specs.Same.{same_state}
 use Rattle.run.specs.Limits.{last_state}
 use Rattle.run.specs.Moves.{begun, move_of}
-use Rattle.run.specs.declared.Going.TheVariants.{On, Stopped}
 use Rattle.run.specs.declared.Machine.{Machine}
 use Rattle.run.specs.declared.Moved.{Moved}
 use Rattle.run.specs.declared.Reached.{Reached}
@@ -22,20 +21,20 @@ recorded_move T I m = move_of T I m.scan m
 
 -- Where a run has come: so many scans are done, at the state of this number; or what stopped it, at the last state that arose.
 abbrev pub here : ℕ → Machine → Reached
-here n m = record { going = On; number = n; machine = m }
+here n m = record { stopped = None; number = n; machine = m }
 
 abbrev pub stopped_at : Cause → ℕ → Machine → Reached
-stopped_at cause n m = record { going = Stopped cause; number = n; machine = m }
+stopped_at cause n m = record { stopped = Some cause; number = n; machine = m }
 
 -- The run from state n on until k scans are done, where so many states more may arise: "6, looked for before 5, and 5 before 7".
 unfoldable pub reached : List ℕ → List ℕ → ℕ → ℕ → ℕ → Machine → Reached
 reached T I k zero n m =
     let x = recorded_move T I m in
-    pick (ltb m.scan k) (elim x.going [ On ↦ stopped_at LongRun n m | Stopped cause ↦ stopped_at cause n m ]) (here n m)
+    pick (ltb m.scan k) (elim x.stopped [ None ↦ stopped_at LongRun n m | Some cause ↦ stopped_at cause n m ]) (here n m)
 reached T I k (suc more) n m =
     let x = recorded_move T I m in
     let rest = reached T I k more (n + 1) x.machine in
-    pick (ltb m.scan k) (elim x.going [ On ↦ rest | Stopped cause ↦ stopped_at cause n m ]) (here n m)
+    pick (ltb m.scan k) (elim x.stopped [ None ↦ rest | Some cause ↦ stopped_at cause n m ]) (here n m)
 
 -- From a state that was reached, until k scans are done.
 abbrev pub onward : List ℕ → List ℕ → ℕ → Reached → Reached
@@ -81,7 +80,7 @@ unfoldable pub ran_of : List ℕ → List ℕ → Ran
 ran_of T I =
     let back = to_return T I in
     let last = to_end T I in
-    elim back.going [
-      | Stopped cause ↦ halted cause back.machine
-      | On ↦ elim last.going [ Stopped cause ↦ halted cause last.machine | On ↦ closing (scans_of I) back last ]
+    elim back.stopped [
+      | Some cause ↦ halted cause back.machine
+      | None ↦ elim last.stopped [ Some cause ↦ halted cause last.machine | None ↦ closing (scans_of I) back last ]
     ]

@@ -2,6 +2,8 @@
 #![tactic(auto)]
 
 mod atoms;
+mod course;
+mod laid;
 mod moves;
 mod places;
 mod route;
@@ -25,13 +27,6 @@ const TABLE_NUMBERS: usize = 6348;
 
 const INPUTS_NUMBERS: usize = 43682;
 
-// Whether a run goes on, or what stops it.
-#[derive(Clone, Copy)]
-pub enum Going {
-    On,
-    Stopped(Cause),
-}
-
 // A state of the run: its phase, the controller's state, the actions done so far in the turn, and the scans done.
 #[derive(Clone, Copy)]
 pub struct Machine {
@@ -41,17 +36,19 @@ pub struct Machine {
     pub scan: u16,
 }
 
-// What one move comes to: the machine after it, or what stops the run and the machine before it.
+// What one move comes to: what stops the run, if anything does, and the machine after the move, or, where it stops the
+// run, before it.
 #[derive(Clone, Copy)]
 pub struct Moved {
-    pub going: Going,
+    pub stopped: Option<Cause>,
     pub machine: Machine,
 }
 
-// Where a run has come: the state of this number, wanted or the last before a stop.
+// Where a run has come: what stopped it, if anything did, and the state of this number, wanted or the last before the
+// stop.
 #[derive(Clone, Copy)]
 pub struct Reached {
-    pub going: Going,
+    pub stopped: Option<Cause>,
     pub number: usize,
     pub machine: Machine,
 }

@@ -1,10 +1,10 @@
 // One move of the run: a read, an action or a write.
 ghost use Rattle.std.specs.Prelude.{◌≡◌, ◌+◌, ◌<◌};
-ghost use Rattle.run.specs.Working.Index.{Indexed};
-ghost use Rattle.run.specs.Moves.{to, stops, active, step_of, used_after, after_action, too_long, unruled, before, action_move, after_read, after_write};
+ghost use Rattle.run.specs.Moves.{active, step_of, used_after, too_long, unruled, action_move};
 ghost use Rattle.run.specs.Running.{recorded_move};
 
-use crate::{Going, Machine, Moved, places};
+use crate::course::Course;
+use crate::{Machine, Moved};
 use coding::Cause;
 use controller::{Acted, Action, Controller, Outcome};
 use requirement::Phase;
@@ -12,57 +12,11 @@ use requirement::Phase;
 // The most actions of a turn.
 const LONGEST_TURN: u16 = 64;
 
-fn to(m: Machine) -> Moved
-    ensures { result ≡ to m }
-{
-    let going = Going::On;
-    Moved {
-        going: going,
-        machine: m,
-    }
-}
-
-fn stops(cause: Cause, m: Machine) -> Moved
-    ensures { result ≡ stops cause m }
-{
-    let going = Going::Stopped(cause);
-    Moved {
-        going: going,
-        machine: m,
-    }
-}
-
 // Whether a functional state is active.
 fn active(f: u16) -> bool
     ensures { result ≡ active f }
 {
-    if f == 0 {
-        return false;
-    }
-    if f == ranges::ERR_STATE {
-        return false;
-    }
-    true
-}
-
-// The action of process i.
-fn step(table: &[u16], places: &[usize], i: u16, c: Controller) -> Acted
-    requires { Indexed table.now places.now }
-    ensures { result ≡ step_of table.now i c }
-{
-    let p = c.process(i);
-    let f = p.state;
-    if !active(f) {
-        return c.act(i, Action::Skip, 0);
-    }
-    let a = p.action;
-    if a == 0 {
-        return c.act(i, Action::End, 0);
-    }
-    let state = places::place_of(table, places, i, f);
-    let row = lookups::action_from(table, state, a);
-    let next = scan::next_of(table, c, row);
-    c.act(i, controller::action_of(row.op, row.x, row.y), next)
+    f != 0 && f != ranges::ERR_STATE
 }
 
 // How many actions of the turn are done after one more: none of the next turn, where it passes.
@@ -77,111 +31,104 @@ fn used_after(outcome: Outcome, used: u16) -> u16
     }
 }
 
-// The machine after an action.
-fn after_action(m: Machine, outcome: Outcome, c: Controller) -> Machine
-    requires { m.used < 65535 }
-    ensures { result ≡ after_action m outcome c }
-{
-    let phase = Phase::Exe;
-    let scan = m.scan;
-    let used = used_after(outcome, m.used);
-    Machine {
-        phase: phase,
-        state: c,
-        used: used,
-        scan: scan,
-    }
-}
-
 // Whether a turn of so many actions is at its end.
-fn too_long(used: u16) -> Going
+fn too_long(used: u16) -> Option<Cause>
     ensures { result ≡ too_long used }
 {
     if used < LONGEST_TURN {
-        return Going::On;
+        return None;
     }
-    Going::Stopped(Cause::LongTurn)
+    Some(Cause::LongTurn)
 }
 
 // Whether there is no rule for an action.
-fn unruled(outcome: Outcome) -> Going
+fn unruled(outcome: Outcome) -> Option<Cause>
     ensures { result ≡ unruled outcome }
 {
     match outcome {
-        Outcome::NoRule => Going::Stopped(Cause::NoRule),
-        _ => Going::On,
+        Outcome::NoRule => Some(Cause::NoRule),
+        Outcome::Stays | Outcome::Passes => None,
     }
 }
 
-// Of two looks the first that stops the run.
-fn before(first: Going, later: Going) -> Going
-    ensures { result ≡ before first later }
-{
-    match first {
-        Going::Stopped(cause) => Going::Stopped(cause),
-        Going::On => later,
+impl Course<'_> {
+    // The action of process i.
+    fn step(&self, i: u16, c: Controller) -> Acted
+        ensures { result ≡ step_of self.now.table.now i c }
+    {
+        let p = c.process(i);
+        let f = p.state;
+        if !active(f) {
+            return c.act(i, Action::Skip, 0);
+        }
+        let a = p.action;
+        if a == 0 {
+            return c.act(i, Action::End, 0);
+        }
+        let state = self.place_of(i, f);
+        let row = lookups::action_from(self.table, state, a);
+        let next = scan::next_of(self.table, c, row);
+        c.act(i, controller::action_of(row.op, row.x, row.y), next)
     }
-}
 
-// An action of the process whose turn it is. A turn that is too long is looked for before an action that has no rule.
-fn action_move(table: &[u16], places: &[usize], m: Machine) -> Moved
-    requires { Indexed table.now places.now }
-    ensures { result ≡ action_move table.now m }
-{
-    let c = m.state;
-    let i = c.counter;
-    let used = m.used;
-    let acted = step(table, places, i, c);
-    let outcome = acted.outcome;
-    let state = acted.state;
-    let long = too_long(used);
-    let missing = unruled(outcome);
-    match before(long, missing) {
-        Going::Stopped(cause) => stops(cause, m),
-        Going::On => to(after_action(m, outcome, state)),
+    // An action of the process whose turn it is. A turn that is too long is looked for before an action that has no rule.
+    fn action_move(&self, m: Machine) -> Moved
+        ensures { result ≡ action_move self.now.table.now m }
+    {
+        let acted = self.step(m.state.counter, m.state);
+        let outcome = acted.outcome;
+        match too_long(m.used).or(unruled(outcome)) {
+            Some(cause) => Moved {
+                stopped: Some(cause),
+                machine: m,
+            },
+            None => {
+                let used = used_after(outcome, m.used);
+                let state = acted.state;
+                let machine = Machine {
+                    phase: Phase::Exe,
+                    state,
+                    used,
+                    ..m
+                };
+                Moved {
+                    stopped: None,
+                    machine,
+                }
+            }
+        }
     }
-}
 
-fn after_read(m: Machine, c: Controller) -> Machine
-    ensures { result ≡ after_read m c }
-{
-    let phase = Phase::Input;
-    let scan = m.scan;
-    Machine {
-        phase: phase,
-        state: c,
-        used: 0,
-        scan: scan,
+    // The move that the counter tells.
+    pub fn make_move(&self, m: Machine) -> Moved
+        requires { m.scan < 65535 }
+        ensures { result ≡ recorded_move self.now.table.now self.now.inputs.now m }
+    {
+        let c = m.state;
+        if c.counter == 0 {
+            let machine = Machine {
+                phase: Phase::Input,
+                state: scan::read(self.table, self.inputs, m.scan, c),
+                used: 0,
+                ..m
+            };
+            return Moved {
+                stopped: None,
+                machine,
+            };
+        }
+        if lookups::processes(self.table) < c.counter {
+            let machine = Machine {
+                phase: Phase::Output,
+                state: scan::write(self.table, c),
+                used: 0,
+                scan: m.scan + 1,
+            };
+            return Moved {
+                stopped: None,
+                machine,
+            };
+        }
+        self.action_move(m)
     }
-}
-
-fn after_write(m: Machine, c: Controller) -> Machine
-    requires { m.scan < 65535 }
-    ensures { result ≡ after_write m c }
-{
-    let phase = Phase::Output;
-    let scan = m.scan;
-    Machine {
-        phase: phase,
-        state: c,
-        used: 0,
-        scan: scan + 1,
-    }
-}
-
-// The move that the counter tells.
-pub fn make_move(table: &[u16], places: &[usize], inputs: &[u16], m: Machine) -> Moved
-    requires { Indexed table.now places.now × (m.scan < 65535) }
-    ensures { result ≡ recorded_move table.now inputs.now m }
-{
-    let c = m.state;
-    let counter = c.counter;
-    let done = m.scan;
-    if counter == 0 {
-        return to(after_read(m, scan::read(table, inputs, done, c)));
-    }
-    if lookups::processes(table) < counter {
-        return to(after_write(m, scan::write(table, c)));
-    }
-    action_move(table, places, m)
 }

@@ -3,41 +3,34 @@ ghost use Rattle.std.specs.Prelude.{◌≡◌, ℕ, ◌+◌, ◌-◌, ◌*◌, �
 ghost use Rattle.lookups.specs.Places.{state_place};
 ghost use Rattle.run.specs.Working.Index.{Indexed};
 
+use crate::course::Course;
+
 // Room for 8 states of 8 processes.
 pub const PLACES: usize = 64;
 
-// Fills in the places of all states.
-pub fn fill(table: &[u16], places: &mut [usize])
-    requires { length places.old ≡ 64 }
-    ensures { Indexed table.now places.new }
+// The places of all states.
+pub fn places_of(table: &[u16]) -> [usize; PLACES]
+    ensures { Indexed table.now result }
 {
-    let mut at: usize = 0;
-    while at < PLACES {
+    let mut places = [0usize; PLACES];
+    for (at, place) in places.iter_mut().enumerate() {
         let process = (at / 8) as u16 + 1;
         let state = (at % 8) as u16 + 1;
-        places[at] = lookups::state_at(table, process, state);
-        at += 1;
+        *place = lookups::state_at(table, process, state);
     }
+    places
 }
 
-// Where state s of process p has its count of actions.
-pub fn place_of(table: &[u16], places: &[usize], p: u16, s: u16) -> usize
-    requires { Indexed table.now places.now }
-    ensures { result ≡ state_place table.now p s }
-{
-    if p == 0 {
-        return lookups::state_at(table, p, s);
+impl Course<'_> {
+    // Where state s of process p has its count of actions.
+    pub fn place_of(&self, p: u16, s: u16) -> usize
+        ensures { result ≡ state_place self.now.table.now p s }
+    {
+        if (1..=8).contains(&p) && (1..=8).contains(&s) {
+            let row = p as usize - 1;
+            let column = s as usize - 1;
+            return self.places[row * 8 + column];
+        }
+        lookups::state_at(self.table, p, s)
     }
-    if s == 0 {
-        return lookups::state_at(table, p, s);
-    }
-    if 8 < p {
-        return lookups::state_at(table, p, s);
-    }
-    if 8 < s {
-        return lookups::state_at(table, p, s);
-    }
-    let row = p as usize - 1;
-    let column = s as usize - 1;
-    places[row * 8 + column]
 }

@@ -3,114 +3,73 @@ ghost use Rattle.std.specs.Prelude.{◌≡◌, ◌+◌, ◌-◌, ◌*◌, ◌<�
 ghost use Rattle.coding.specs.Room.{over};
 ghost use Rattle.ranges.specs.Limits.{most_processes};
 ghost use Rattle.lasso.specs.Bytes.{phase_number};
-ghost use Rattle.run.specs.Working.Index.{Indexed};
-ghost use Rattle.run.specs.Working.Atoms.{LaidOut};
 ghost use Rattle.run.specs.Limits.{last_state};
 ghost use Rattle.run.specs.Moves.{begun};
-ghost use Rattle.run.specs.Running.{here, stopped_at, reached, turn_of, halted, closing, ran_of};
+ghost use Rattle.run.specs.Running.{reached, turn_of, halted, closing, ran_of};
 ghost use Rattle.run.specs.Trace.{path};
 ghost use Rattle.run.specs.Working.Walking.{Walked, cleared, cleared_by, Small};
 
-use crate::{Going, Machine, Ran, Reached, atoms, moves, places};
+use crate::course::Course;
+use crate::{Machine, Ran, Reached};
 use coding::Cause;
 use requirement::Phase;
 
 // The last state that may arise.
 const LAST_STATE: usize = 4096;
 
-fn here(n: usize, m: Machine) -> Reached
-    ensures { result ≡ here n m }
-{
-    let going = Going::On;
-    Reached {
-        going: going,
-        number: n,
-        machine: m,
-    }
-}
-
-fn stopped_at(cause: Cause, n: usize, m: Machine) -> Reached
-    ensures { result ≡ stopped_at cause n m }
-{
-    let going = Going::Stopped(cause);
-    Reached {
-        going: going,
-        number: n,
-        machine: m,
-    }
-}
-
-// Whether fewer than k scans are done.
-fn before(m: Machine, k: u16) -> bool
-    ensures { result ≡ ltb m.scan k }
-{
-    let scan = m.scan;
-    scan < k
-}
-
-// Writes the state that is left, of which the atoms are known.
-fn leave(m: Machine, atoms: [u8; 4], n: usize, trace: &mut [u8])
-    requires { n ≤ last_state }
-    ensures { trace.new ≡ over trace.old (n * 5) (phase_number m.phase ∷ atoms) }
-{
-    let phase = m.phase;
-    scan::put_position(phase, atoms, n * 5, trace);
-}
-
 // The state of the start.
 fn begin() -> Machine
     ensures { result ≡ begun most_processes }
 {
-    let phase = Phase::Output;
-    let state = controller::at_start();
     Machine {
-        phase: phase,
-        state: state,
+        phase: Phase::Output,
+        state: controller::at_start(),
         used: 0,
         scan: 0,
     }
 }
 
-// From state `from` on until k scans are done.
-fn run_to(
-    table: &[u16],
-    places: &[usize],
-    laid: &[u32],
-    inputs: &[u16],
-    k: u16,
-    from: usize,
-    machine: Machine,
-    trace: &mut [u8],
-) -> Reached
-    requires { Indexed table.now places.now × LaidOut table.now laid.now × (from ≤ last_state) }
-    ensures { (result ≡ reached table.now inputs.now k (last_state - from) from machine)
-        × (result.number ≤ last_state)
-        × (trace.new ≡ over trace.old (from * 5) (path table.now inputs.now (result.number - from) machine)) }
-{
-    let mut n = from;
-    let mut m = machine;
-    let first = machine.state;
-    let mut atoms = atoms::atoms_of(laid, first);
-    while before(m, k) {
-        let moved = moves::make_move(table, places, inputs, m);
-        let going = moved.going;
-        match going {
-            Going::Stopped(cause) => return stopped_at(cause, n, m),
-            Going::On => {}
+impl Course<'_> {
+    // From state `from` on until k scans are done. It stays a `while`: a `for` over the numbers of the states would have
+    // to make one more move behind its last round, to see what stops the run there.
+    fn run_to(&self, k: u16, from: usize, machine: Machine, trace: &mut [u8]) -> Reached
+        requires { from ≤ last_state }
+        ensures { (result ≡ reached self.now.table.now self.now.inputs.now k (last_state - from) from machine)
+            × (result.number ≤ last_state)
+            × (trace.new ≡ over trace.old (from * 5) (path self.now.table.now self.now.inputs.now (result.number - from) machine)) }
+    {
+        let mut n = from;
+        let mut m = machine;
+        let mut atoms = self.atoms_of(m.state);
+        while m.scan < k {
+            let moved = self.make_move(m);
+            if let Some(cause) = moved.stopped {
+                return Reached {
+                    stopped: Some(cause),
+                    number: n,
+                    machine: m,
+                };
+            }
+            if LAST_STATE <= n {
+                return Reached {
+                    stopped: Some(Cause::LongRun),
+                    number: n,
+                    machine: m,
+                };
+            }
+            // the state that is left, of which the atoms are known
+            scan::put_position(m.phase, atoms, n * 5, trace);
+            let then = self.atoms_after(atoms, m.state, moved.machine.state);
+            atoms = then;
+            m = moved.machine;
+            n += 1;
         }
-        if LAST_STATE <= n {
-            return stopped_at(Cause::LongRun, n, m);
+        Reached {
+            stopped: None,
+            number: n,
+            machine: m,
         }
-        leave(m, atoms, n, trace);
-        let next = moved.machine;
-        let old = m.state;
-        let new = next.state;
-        let then = atoms::atoms_after(laid, atoms, old, new);
-        atoms = then;
-        m = next;
-        n += 1;
     }
-    here(n, m)
 }
 
 // Whose turn it was, for a refusal of an action.
@@ -120,8 +79,7 @@ fn turn_of(cause: Cause, m: Machine) -> u16
     let c = m.state;
     let counter = c.counter;
     match cause {
-        Cause::NoRule => counter,
-        Cause::LongTurn => counter,
+        Cause::NoRule | Cause::LongTurn => counter,
         _ => 0,
     }
 }
@@ -155,26 +113,17 @@ fn close(q: u16, back: Reached, last: Reached) -> Ran
 pub fn walk(table: &[u16], inputs: &[u16], trace: &mut [u8]) -> Ran
     ensures { (result ≡ ran_of table.now inputs.now) × Walked result table.now inputs.now trace.old trace.new }
 {
-    let mut places = [0usize; places::PLACES];
-    places::fill(table, &mut places);
-    let mut laid = [0u32; atoms::LAID_OUT];
-    atoms::lay_out(table, &mut laid);
-    let b = lookups::return_scan(inputs);
-    let back = run_to(table, &places, &laid, inputs, b, 0, begin(), trace);
-    let going = back.going;
-    let first = back.machine;
-    let start = back.number;
-    match going {
-        Going::Stopped(cause) => return halted(cause, first),
-        Going::On => {}
+    let course = Course::new(table, inputs);
+    let b = lookups::return_scan(course.inputs);
+    let back = course.run_to(b, 0, begin(), trace);
+    if let Some(cause) = back.stopped {
+        return halted(cause, back.machine);
     }
-    let q = lookups::scans(inputs);
-    let last = run_to(table, &places, &laid, inputs, q, start, first, trace);
-    let going_on = last.going;
-    let end = last.machine;
-    match going_on {
-        Going::Stopped(cause) => halted(cause, end),
-        Going::On => close(q, back, last),
+    let q = lookups::scans(course.inputs);
+    let last = course.run_to(q, back.number, back.machine, trace);
+    match last.stopped {
+        Some(cause) => halted(cause, last.machine),
+        None => close(q, back, last),
     }
 }
 
@@ -182,11 +131,8 @@ pub fn walk(table: &[u16], inputs: &[u16], trace: &mut [u8]) -> Ran
 fn clear_from(at: usize, trace: &mut [u8])
     ensures { trace.new ≡ cleared at trace.old }
 {
-    let mut i = at;
-    while i < trace.len() {
-        trace[i] = 0;
-        i += 1;
-    }
+    let from = at.min(trace.len());
+    trace[from..].fill(0);
 }
 
 // Clears what a run leaves to be cleared: behind the trace of a closed one, and everything of a stopped one.

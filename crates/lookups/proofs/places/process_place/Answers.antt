@@ -6,4 +6,4 @@ use Rattle.lookups.proofs.places.process_place.Goals as goal
 pub returns : goal.returns
 unfolding process_place
 returns c =
-    (rw (c.after_processes.ensures.0, c.before-2.ensures, c.processes_place-from.ensures.0) refl, omega arith)
+    (rw (c.after_processes.ensures.0, c.saturating_sub.ensures, c.processes_place-from.ensures.0) refl, omega arith)

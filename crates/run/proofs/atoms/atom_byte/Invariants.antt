@@ -4,9 +4,5 @@ use Rattle.scan.specs.Position.{packed}
 use Rattle.run.specs.Working.Atoms.{laid_atom}
 use Rattle.run.proofs.atoms.atom_byte.Given as goal
 
-abbrev pub invariant-loop-left : goal.invariant-loop-left
-invariant-loop-left l =
-    (l.byte ≡ packed (8 - l.left) (laid_atom l.laid l.seen) (l.from + l.left)) × (l.left ≤ 8)
-
-abbrev pub decreases-loop-left : goal.decreases-loop-left
-decreases-loop-left l = l.left
+abbrev pub invariant-loop-k : goal.invariant-loop-k
+invariant-loop-k l = (l.byte ≡ packed (l.from + 8 - l.k) (laid_atom l.laid l.seen) l.k) × (l.from ≤ l.k)

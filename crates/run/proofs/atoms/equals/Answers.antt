@@ -1,14 +1,19 @@
-use mathlib.Core.Path.{refl}
+use mathlib.Core.Path.{◌≡◌, refl}
+use mathlib.Core.Bool.{Bool, true, false}
+use lib.Dec.{eqb}
+use borrow.Author.Tests.{ne_eqb}
+use Rattle.ranges.specs.Values.{pick}
 use Rattle.run.specs.Working.Atoms.{equals}
-use Rattle.run.proofs.LaidOut.{equal_asked, greater_asked}
 use Rattle.run.proofs.atoms.equals.Goals as goal
 
-pub returns-then-test-eq1 : goal.returns-then-test-eq1
+itself : (b : Bool) → b ≡ pick b true false
+itself true = refl
+itself false = refl
+
+pub returns-then-test-eq0 : goal.returns-then-test-eq0
 unfolding equals
-returns-then-test-eq1 c = rw c.if-test-eq1.true refl
+returns-then-test-eq0 c = rw c.if-test-eq0.true refl
 
-pub returns-then-test-gt2 : goal.returns-then-test-gt2
-returns-then-test-gt2 c = greater_asked _ c.if-test-gt2.true
-
-pub returns : goal.returns
-returns c = equal_asked _ c.if-test-eq1.false c.if-test-gt2.false
+pub returns-else-test-eq0 : goal.returns-else-test-eq0
+unfolding equals
+returns-else-test-eq0 c = rw (ne_eqb _ _ c.if-test-eq0.false) (itself (eqb c.args.test.kind 2))

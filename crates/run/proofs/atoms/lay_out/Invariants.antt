@@ -1,9 +1,7 @@
-use Prim.Native.Nat.{◌-◌, ◌≤◌}
-use Rattle.run.specs.Working.Atoms.{LaidOutTo}
+use Prim.Native.Nat.{ℕ, ◌<◌}
+use lib.ListN.{get_or}
+use Rattle.run.specs.Working.Atoms.{LaysOut, missing}
 use Rattle.run.proofs.atoms.lay_out.Given as goal
 
 abbrev pub invariant-loop-k : goal.invariant-loop-k
-invariant-loop-k l = (l.k ≤ 32) × LaidOutTo l.k l.table l.laid
-
-abbrev pub decreases-loop-k : goal.decreases-loop-k
-decreases-loop-k l = 32 - l.k
+invariant-loop-k l = (j : ℕ) → j < l.k → LaysOut l.table j (get_or l.test-items j missing)

@@ -1,9 +1,9 @@
 use native.Mathlib.Omega.{arith}
-use Rattle.run.proofs.Clearing.{clear_again, clear_done}
+use Rattle.std.proofs.Common.{rules}
+use Rattle.std.proofs.lemmas.Grind.{common_steps}
+use Rattle.run.specs.Working.Walking.{cleared}
 use Rattle.run.proofs.route.clear_from.Goals as goal
 
-pub loop-i-preserved : goal.loop-i-preserved
-loop-i-preserved c = clear_again _ _ _ _ c.loop-i.invariant (omega arith)
-
 pub returns : goal.returns
-returns c = clear_done _ _ _ _ c.loop-i.invariant (omega arith)
+unfolding cleared
+returns c = let h = c.fill.ensures.after (search rules) in grind (arith, common_steps, h, c.min-from.ensures)

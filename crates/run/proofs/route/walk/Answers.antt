@@ -4,31 +4,26 @@ use Rattle.run.proofs.route.walk.Goals as goal
 
 pub halted-requires : goal.halted-requires
 halted-requires c =
-    in_scan _ _ _ 0 c.begin.result _ _ _ c.run_to-back.ensures _ c.in-Stopped.is (omega arith)
+    in_scan _ _ _ 0 c.begin.result _ _ _ c.run_to-back.ensures _ c.in-Some.is (omega arith)
 
-pub returns-in-Stopped : goal.returns-in-Stopped
-returns-in-Stopped c =
-    rw c.halted.ensures
-    (halts_first _ _ _ _ _ _ _ c.run_to-back.ensures c.return_scan-b.ensures c.begin.ensures _
-    c.in-Stopped.is)
+pub returns-in-Some : goal.returns-in-Some
+returns-in-Some c =
+    rw (← c.new-course.ensures.0, ← c.new-course.ensures.1, c.halted.ensures)
+    (halts_first _ _ _ _ _ _ _ c.run_to-back.ensures c.return_scan-b.ensures c.begin.ensures _ c.in-Some.is)
 
-pub run_to-last-requires : goal.run_to-last-requires
-run_to-last-requires c =
-    (c.fill.ensures, c.lay_out.ensures, c.run_to-back.ensures.1)
-
-pub halted-requires-in-Stopped-going_on : goal.halted-requires-in-Stopped-going_on
-halted-requires-in-Stopped-going_on c =
+pub halted-requires-in-Some-stopped : goal.halted-requires-in-Some-stopped
+halted-requires-in-Some-stopped c =
     in_scan _ _ _ c.run_to-back.result.number c.run_to-back.result.machine _ _ _ c.run_to-last.ensures _
-    c.in-Stopped-going_on.is (omega arith)
+    c.in-Some-stopped.is (omega arith)
 
-pub returns-in-Stopped-going_on : goal.returns-in-Stopped-going_on
-returns-in-Stopped-going_on c =
-    rw c.halted-in-Stopped-going_on.ensures
+pub returns-in-Some-stopped : goal.returns-in-Some-stopped
+returns-in-Some-stopped c =
+    rw (← c.new-course.ensures.0, ← c.new-course.ensures.1, c.halted-in-Some-stopped.ensures)
     (halts_later _ _ _ _ _ _ _ c.run_to-back.ensures _ _ _ c.run_to-last.ensures c.return_scan-b.ensures
-    c.begin.ensures c.scans-q.ensures c.in-On.is _ c.in-Stopped-going_on.is)
+    c.begin.ensures c.scans-q.ensures c.in_default.is _ c.in-Some-stopped.is)
 
-pub returns-in-On-going_on : goal.returns-in-On-going_on
-returns-in-On-going_on c =
-    rw c.close.ensures
+pub returns-in-None : goal.returns-in-None
+returns-in-None c =
+    rw (← c.new-course.ensures.0, ← c.new-course.ensures.1, c.close.ensures)
     (goes_through _ _ _ _ _ _ _ c.run_to-back.ensures _ _ _ c.run_to-last.ensures c.return_scan-b.ensures
-    c.begin.ensures c.scans-q.ensures c.in-On.is c.in-On-going_on.is)
+    c.begin.ensures c.scans-q.ensures c.in_default.is c.in-None.is)

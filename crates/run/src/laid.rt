@@ -1,0 +1,24 @@
+// A test as the run lays it out.
+ghost use Rattle.std.specs.Prelude.{◌<◌};
+
+// Where the test looks in what tests see, the number that it compares with, and whether the two are to be equal.
+#[derive(Clone, Copy)]
+pub struct Laid {
+    pub place: u8,
+    pub number: u16,
+    pub equal: bool,
+    ghost in_sight: { place < 42 },
+}
+
+impl Laid {
+    ghost use Rattle.std.specs.Prelude.{◌≡◌, length};
+    ghost use Rattle.run.specs.Working.Atoms.{asked};
+
+    // Whether the test holds of what is seen.
+    pub fn holds(self, seen: &[u32]) -> bool
+        requires { length seen.now ≡ 42 }
+        ensures { result ≡ asked self seen.now }
+    {
+        controller::tests::compares(self.equal, self.number as u32, seen[self.place as usize])
+    }
+}
