@@ -1,27 +1,27 @@
 -- What the checks before a judging come to on each way through them, and what an accepted judging shows.
 -- Assumes nothing.
-use Prim.Native.Nat.{ℕ, zero, suc, ◌+◌, ◌-◌, ◌*◌, ◌/◌, ◌^◌, ◌<◌, ◌≤◌}
+use Prim.Native.Nat.{ℕ, zero, suc, ◌+◌, ◌*◌, ◌/◌, ◌^◌, ◌<◌, ◌≤◌}
 use native.Mathlib.Omega.{arith}
 use native.Mathlib.Nat.{le_refl, zero-add, mul-le-mul, min-le_left}
-use mathlib.Core.Path.{◌≡◌, refl, sym, ◌∙◌}
+use mathlib.Core.Path.{◌≡◌, refl, sym, ◌∙◌, ap}
 use mathlib.Core.Bool.{Bool, true, false}
 use mathlib.Core.List.{List}
 use lib.ListN.{length, take, replicate, length-take}
 use borrow.Author.Tests.{lt-ltb, le-ltb}
-use Rattle.coding.specs.Code.{code_at, source_at}
+use Rattle.coding.specs.declared.Refusal.{Refusal}
+use Rattle.coding.proofs.Refusing.{same_cause, same_place}
+use Rattle.requirement.specs.declared.Checked.{Checked}
+use Rattle.std.specs.Prelude.{Ok, Err}
+use Rattle.coding.specs.Code.{code_at}
 use Rattle.coding.specs.Room.{over}
-use Rattle.coding.specs.declared.Cause.{Cause}
 use Rattle.coding.specs.declared.Cause.TheVariants.{ShortBuffer}
-use Rattle.coding.specs.declared.Answer.TheVariants.{Count, Refused}
 use Rattle.requirement.specs.Requirement.{Requirement, atom, mark, one, two, depth_of}
-use Rattle.requirement.specs.Reading.{Parsed, whole, unread, parsed, checked_of, checked}
+use Rattle.requirement.specs.Reading.{Parsed, whole, unread, parsed, nodes_and_depth, checked_of, checked, Check, nodes_and_depth}
 use Rattle.requirement.specs.Walking.{walk_at}
 use Rattle.requirement.specs.declared.Kind.{Kind}
 use Rattle.requirement.specs.declared.One.TheVariants.{Not}
 use Rattle.requirement.specs.declared.Two.TheVariants.{And}
 use Rattle.requirement.specs.declared.Phase.TheVariants.{Input}
-use Rattle.requirement.specs.declared.Checked.{Checked}
-use Rattle.requirement.specs.declared.Checked.TheVariants.{Whole, Refused as NotWhole}
 use Rattle.requirement.proofs.Walking.{walk_of_parsed}
 use Rattle.meaning.specs.Findings.{select}
 use Rattle.meaning.specs.Rows.{judge}
@@ -36,7 +36,7 @@ use Rattle.lasso.specs.Checking.{check_trace}
 use Rattle.lasso.proofs.WellFormed.{Lasso, accepted_is_well_formed}
 use Rattle.judge.specs.Judging.{stop, go, checks_of, position_bytes, Accepted}
 use Rattle.judge.specs.Working.{Room, Tallied, Tallies, listed}
-use Rattle.judge.specs.declared.Tally.{Tally}
+use Rattle.judge.specs.declared.Verdict.{Verdict}
 use Rattle.judge.proofs.Failing.{failing_few}
 use Rattle.judge.proofs.Listing.{select_length}
 use Rattle.judge.proofs.Tallying.{room_some, part_count, part_select}
@@ -63,32 +63,39 @@ count_most f (suc n) = omega (arith, count_most f n, most (f n))
     most true = omega arith
     most false = omega arith
 
-module _ (kind : Kind) (s none : List ℕ) (x : Checked) (e : x ≡ checked kind (source_at true s none 0)) where
-  from : checked_of (parsed kind (code_at s 0)) ≡ x
-  unfolding checked source_at
-  from = sym e
+-- what a check answers is the depth of what was read
+depth_or : ℕ → Check → ℕ
+depth_or k (Ok sizes) = sizes.depth
+depth_or k (Err why) = k
 
-  pub code_whole : {nodes depth : ℕ} → x ≡ Whole nodes depth → Sound kind s depth
-  code_whole {nodes} {depth} h = go (parsed kind (code_at s 0)) refl (from ∙ h)
+depth_read : {sizes : Checked} {nodes depth : ℕ} → nodes_and_depth nodes depth ≡ Ok sizes → sizes.depth ≡ depth
+unfolding depth_or
+depth_read e = sym (ap (depth_or 0) e)
+
+module _ (kind : Kind) (s : List ℕ) where
+  pub code_whole : {sizes : Checked} → Ok sizes ≡ checked kind (code_at s 0) → Sound kind s sizes.depth
+  unfolding checked
+  code_whole {sizes} h = go (parsed kind (code_at s 0)) refl (sym h)
     where
-      go : (p : Parsed) → parsed kind (code_at s 0) ≡ p → checked_of p ≡ Whole nodes depth → Sound kind s depth
-      go (whole f) q i = record { requirement = f; read = q; deep = cc }
+      go : (p : Parsed) → parsed kind (code_at s 0) ≡ p → checked_of p ≡ Ok sizes → Sound kind s sizes.depth
+      go (whole f) q i = record { requirement = f; read = q; deep = depth_read i }
       go (unread cause place) q i = let z : ◌≡◌ {A = ℕ} 0 1 = cc in absurd (omega arith)
 
-  pub code_refused : {cause : Cause} {place : ℕ} → x ≡ NotWhole cause place → (trace : List ℕ) (start work list : ℕ) → checks_of kind s trace start work list ≡ stop cause place
-  unfolding checks_of
-  code_refused {cause} {place} h trace start work list = rw (go (parsed kind (code_at s 0)) (from ∙ h))
+  pub code_refused : {why : Refusal} → Err why ≡ checked kind (code_at s 0) → (trace : List ℕ) (start work list : ℕ) →
+      checks_of kind s trace start work list ≡ stop why.cause why.place
+  unfolding checks_of checked
+  code_refused {why} h trace start work list = rw (go (parsed kind (code_at s 0)) (sym h))
     where
-      go : (p : Parsed) → checked_of p ≡ NotWhole cause place → p ≡ unread cause place
+      go : (p : Parsed) → checked_of p ≡ Err why → p ≡ unread why.cause why.place
       go (whole f) i = let z : ◌≡◌ {A = ℕ} 0 1 = cc in absurd (omega arith)
-      go (unread c q) i = cc
+      go (unread c q) i = rw (same_cause i, same_place i)
 
 module _ {kind : Kind} {s : List ℕ} {depth : ℕ} (h : Sound kind s depth) (trace : List ℕ) (start work list : ℕ) where
-  pub trace_refused : {cause : Cause} {place : ℕ} → check_trace trace start ≡ Refused cause place → checks_of kind s trace start work list ≡ stop cause place
+  pub trace_refused : {why : Refusal} → check_trace trace start ≡ Err why → checks_of kind s trace start work list ≡ stop why.cause why.place
   unfolding checks_of
   trace_refused e = rw (h.read, e)
 
-  module _ {n : ℕ} (e : check_trace trace start ≡ Count n) where
+  module _ {n : ℕ} (e : check_trace trace start ≡ Ok n) where
     pub lasso : Lasso trace start n
     lasso = accepted_is_well_formed trace start n e
 
@@ -113,9 +120,6 @@ pub asked_most : {d n : ℕ} → d < 65536 → n ≤ 4096 → d * ((n + 7) / 8) 
 asked_most {d} {n} h l =
     let m : d * ((n + 7) / 8) ≤ 65535 * 512 = mul-le-mul {n₁ = d} {m₁ = (n + 7) / 8} {n₂ = 65535} {m₂ = 512} (omega arith) (omega arith) in
     omega arith
-
-pub less_none : (k : ℕ) → k - 0 ≡ k
-less_none k = omega arith
 
 module _ {trace : List ℕ} {start n : ℕ} (l : Lasso trace start n) where
   inputs_few : inputs_in trace ≤ 4096
@@ -145,7 +149,7 @@ module _ {kind : Kind} {s : List ℕ} {depth : ℕ} (h : Sound kind s depth) {tr
   pub row_fits : (work w : List ℕ) → length w ≡ length work → depth * ((n + 7) / 8) ≤ length work → (n + 7) / 8 ≤ length w
   row_fits work w e a = let (some, room) = room_fine work a in rw (e, l.count) (room_some some room)
 
-  module _ (w : List ℕ) (r : Tally) (k : ℕ) (ek : k ≡ (n + 7) / 8) (fits : (n + 7) / 8 ≤ length w) (tally : Tallies (walk_at kind depth s 0) trace start w r) where
+  module _ (w : List ℕ) (r : Verdict) (k : ℕ) (ek : k ≡ (n + 7) / 8) (fits : (n + 7) / 8 ≤ length w) (tally : Tallies (walk_at kind depth s 0) trace start w r) where
     told : Tallied trace (judge (trace_of trace start) h.requirement) w r
     told = rw (walk_of_parsed kind s h.requirement depth h.read (omega (arith, h.deep))) at tally
 

@@ -1,5 +1,6 @@
 -- The recursion's rows: what each arm of it, by its node, makes of its operands' rows.
 -- Assumes nothing.
+use Rattle.std.specs.Prelude.{Err}
 use Prim.Native.Nat.{ℕ, zero, suc, ◌+◌, ◌-◌, ◌*◌, ◌<◌, ◌≤◌}
 use native.Mathlib.Omega.{arith}
 use native.Mathlib.Nat.{suc-mul}
@@ -9,8 +10,8 @@ use mathlib.Core.List.{List}
 use lib.ListN.{length, drop}
 use lib.Dec.{eqb}
 use borrow.Rule.Slice.PartMut.{put_mid}
-use Rattle.coding.specs.declared.Cause.{Cause}
-use Rattle.requirement.specs.Reading.{node_at}
+use Rattle.coding.specs.declared.Refusal.{Refusal}
+use Rattle.requirement.specs.Reading.{node_at, node_then}
 use Rattle.requirement.specs.Walking.{Walked, walked, lost, over_one, over_two, with_second, walk_at}
 use Rattle.requirement.specs.declared.Kind.{Kind}
 use Rattle.requirement.specs.declared.One.{One}
@@ -18,9 +19,7 @@ use Rattle.requirement.specs.declared.Two.{Two}
 use Rattle.requirement.specs.declared.Phase.{Phase}
 use Rattle.requirement.specs.declared.Phase.TheVariants.{Input, Exe, Output}
 use Rattle.requirement.specs.declared.Node.{Node}
-use Rattle.requirement.specs.declared.NodeRead.{NodeRead}
 use Rattle.requirement.specs.declared.Node.TheVariants.{Atom, Mark, OverOne, OverTwo}
-use Rattle.requirement.specs.declared.NodeRead.TheVariants.{Found, Fault}
 use Rattle.requirement.proofs.Walking.{walk_none, walk_down, atom_to_31}
 use Rattle.meaning.specs.Phases.{Phase-discrete}
 use Rattle.meaning.specs.Trace.{Trace, after}
@@ -119,31 +118,31 @@ module _ (trace : List ℕ) (start : ℕ) (inside : start < positions trace) (wo
 
 -- ---- one node
 module _ (kind : Kind) (s : List ℕ) (at : ℕ) where
-  pub node_found : (r : NodeRead) {next : ℕ} {x node : Node} → r ≡ node_at kind s at → r ≡ Found x next → x ≡ node → node_at kind s at ≡ Found node next
-  node_found r e f g = sym e ∙ f ∙ rw g
+  pub node_found : {next : ℕ} {x node : Node} → node_then x next ≡ node_at kind s at → x ≡ node → node_at kind s at ≡ node_then node next
+  node_found e g = sym e ∙ rw g
 
   module _ (depth : ℕ) (trace : List ℕ) (start : ℕ) (work : List ℕ) (r : ℕ) where
     pub rowed_none : depth ≡ 0 → Rowed (walk_at kind depth s at) trace start work r
     rowed_none z = rw (walk_none kind s at depth z) tt
 
     module _ (more : depth ≡ 0 → ⊥) where
-      pub rowed_fault : {cause : Cause} {place : ℕ} → node_at kind s at ≡ Fault cause place → Rowed (walk_at kind depth s at) trace start work r
+      pub rowed_fault : {why : Refusal} → node_at kind s at ≡ Err why → Rowed (walk_at kind depth s at) trace start work r
       rowed_fault e = rw (walk_down kind s at depth more _ e) tt
 
-      pub rowed_atom : (k : ℕ) → node_at kind s at ≡ Found (Atom k) r → Same (positions trace) (bit_at work) (atom_b trace k) → Rowed (walk_at kind depth s at) trace start work r
+      pub rowed_atom : (k : ℕ) → node_at kind s at ≡ node_then (Atom k) r → Same (positions trace) (bit_at work) (atom_b trace k) → Rowed (walk_at kind depth s at) trace start work r
       unfolding judge
       rowed_atom k e h =
           let few : k < 32 = omega (arith, atom_to_31 kind s at k r e) in
           rw (walk_down kind s at depth more _ e) (refl, λ p l. h p l ∙ sym (atom_within trace p k few))
 
-      pub rowed_mark : (p : Phase) → node_at kind s at ≡ Found (Mark p) r → Same (positions trace) (bit_at work) (is_at trace p) → Rowed (walk_at kind depth s at) trace start work r
+      pub rowed_mark : (p : Phase) → node_at kind s at ≡ node_then (Mark p) r → Same (positions trace) (bit_at work) (is_at trace p) → Rowed (walk_at kind depth s at) trace start work r
       unfolding judge
       rowed_mark p e h = rw (walk_down kind s at depth more _ e) (refl, h)
 
-      pub rowed_one : (o : One) {next : ℕ} → node_at kind s at ≡ Found (OverOne o) next → Rowed (over_one o (walk_at kind (depth - 1) s next)) trace start work r
+      pub rowed_one : (o : One) {next : ℕ} → node_at kind s at ≡ node_then (OverOne o) next → Rowed (over_one o (walk_at kind (depth - 1) s next)) trace start work r
           → Rowed (walk_at kind depth s at) trace start work r
       rowed_one o e h = rw (walk_down kind s at depth more _ e) h
 
-      pub rowed_two : (o : Two) {next : ℕ} → node_at kind s at ≡ Found (OverTwo o) next
+      pub rowed_two : (o : Two) {next : ℕ} → node_at kind s at ≡ node_then (OverTwo o) next
           → Rowed (over_two o (λ x. walk_at kind (depth - 1) s x) (walk_at kind (depth - 1) s next)) trace start work r → Rowed (walk_at kind depth s at) trace start work r
       rowed_two o e h = rw (walk_down kind s at depth more _ e) h

@@ -9,12 +9,11 @@ use lib.ListN.{length}
 use contract.Lifetimes.{Lfts}
 use borrow.Fn.Kinds.{Dens, ended_of}
 use denote.Triple.Clauses.{AtExit}
+use Rattle.std.specs.Prelude.{Ok, Err}
 use Rattle.meaning.specs.Trace.{Trace}
 use Rattle.meaning.proofs.Ascends.{one_list}
 use Rattle.lasso.specs.Bytes.{trace_of}
-use Rattle.judge.specs.Judging.{Checks, stop, go, checks_of, Judges}
-use Rattle.judge.specs.declared.Judged.{Judged}
-use Rattle.judge.specs.declared.Judged.TheVariants.{Verdict, Refused as NotJudged}
+use Rattle.judge.specs.Judging.{Checks, stop, go, checks_of, Judges, Judgement}
 use Rattle.judge.proofs.judge.Kinds as judge
 use Rattle.judge.proofs.judge.Reads as judge_reads
 
@@ -26,17 +25,17 @@ one_verdict P true false h k = sym (k.1 (h.0 refl))
 one_verdict P false true h k = h.1 (k.0 refl)
 
 module _ (t : Trace) (work list work₁ list₁ work₂ list₂ : List ℕ) where
-  pub one_judging : (c : Checks) (r s : Judged) → Judges c t work list work₁ list₁ r → Judges c t work list work₂ list₂ s → (r ≡ s) × (work₁ ≡ work₂) × (list₁ ≡ list₂)
+  pub one_judging : (c : Checks) (r s : Judgement) → Judges c t work list work₁ list₁ r → Judges c t work list work₂ list₂ s → (r ≡ s) × (work₁ ≡ work₂) × (list₁ ≡ list₂)
   one_judging (stop cause place) r s a b = (a.0 ∙ sym b.0, a.1 ∙ sym b.1, a.2 ∙ sym b.2)
-  one_judging (go f) (Verdict h m) (Verdict k n) a b =
+  one_judging (go f) (Ok verdict) (Ok verdict₁) a b =
       let e : a.found ≡ b.found = one_list a.findings b.findings in
-      let v : h ≡ k = one_verdict _ h k a.verdict b.verdict in
-      let c : m ≡ n = a.counted ∙ ap length e ∙ sym b.counted in
+      let v : verdict.holds ≡ verdict₁.holds = one_verdict _ verdict.holds verdict₁.holds a.verdict b.verdict in
+      let c : verdict.count ≡ verdict₁.count = a.counted ∙ ap length e ∙ sym b.counted in
       (rw (v, c), a.cleared ∙ sym b.cleared, a.listed ∙ rw e (sym b.listed))
-  one_judging (go f) (NotJudged cause place) s a b = absurd a
-  one_judging (go f) (Verdict h m) (NotJudged cause place) a b = absurd b
+  one_judging (go f) (Err why) s a b = absurd a
+  one_judging (go f) (Ok verdict) (Err why) a b = absurd b
 
-pub judging_unique : (κs : Lfts 4) (r t : Judged) (a : Dens κs judge.ps) (e f : AtExit (ended_of 4 judge.ps judge.r) κs) → judge_reads.Post κs a r e → judge_reads.Post κs a t f
+pub judging_unique : (κs : Lfts 4) (r t : Judgement) (a : Dens κs judge.ps) (e f : AtExit (ended_of 4 judge.ps judge.r) κs) → judge_reads.Post κs a r e → judge_reads.Post κs a t f
     → (r ≡ t) × (e.1.1.1.1.0.now ≡ f.1.1.1.1.0.now) × (e.1.1.1.1.1.0.now ≡ f.1.1.1.1.1.0.now)
 judging_unique κs r t a e f =
     let trace = a.1.1.0.now in

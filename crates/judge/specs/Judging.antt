@@ -1,16 +1,16 @@
 -- Judging. Document 01, Numbers of refusal: "Judging checks: requirement, trace, work buffer under depth times row bytes (positions over 8, rounded up), list buffer
 -- under 2 bytes per Input position." "Judging ends with work all zero; the list holds 2-byte positions, low byte first, and its rest is unchanged".
 -- Assumes nothing: these are definitions.
-use Rattle.std.specs.Prelude.{ℕ, ◌*◌, ◌/◌, ◌%◌, ◌≡◌, ◌↔◌, Bool, true, List, [], ◌∷◌, length, replicate, ltb}
+use Rattle.std.specs.Prelude.{ℕ, ◌*◌, ◌/◌, ◌%◌, ◌≡◌, ◌↔◌, Bool, true, List, [], ◌∷◌, length, replicate, ltb, Ok, Err, Result}
 use Rattle.coding.specs.Number.{pick}
 use Rattle.coding.specs.Code.{code_at}
-use Rattle.coding.specs.Refusal.{accepted, refusal}
+use Rattle.coding.specs.Refusal.{accepted, refusal, Answer, refused_at}
 use Rattle.coding.specs.Room.{over}
 use Rattle.coding.specs.declared.Told.{Told}
 use Rattle.coding.specs.declared.Cause.{Cause}
 use Rattle.coding.specs.declared.Cause.TheVariants.{ShortBuffer}
-use Rattle.coding.specs.declared.Answer.{Answer}
-use Rattle.coding.specs.declared.Answer.TheVariants.{Count, Refused}
+use Rattle.coding.specs.declared.Refusal.{Refusal}
+use Rattle.judge.specs.declared.Verdict.{Verdict}
 use Rattle.requirement.specs.Requirement.{Requirement, depth_of}
 use Rattle.requirement.specs.Reading.{Parsed, whole, unread, parsed}
 use Rattle.requirement.specs.declared.Kind.{Kind}
@@ -21,8 +21,6 @@ use Rattle.bits.specs.Bits.{digit}
 use Rattle.bits.specs.Rows.{row_of}
 use Rattle.lasso.specs.Bytes.{positions, inputs_in}
 use Rattle.lasso.specs.Checking.{check_trace}
-use Rattle.judge.specs.declared.Judged.{Judged}
-use Rattle.judge.specs.declared.Judged.TheVariants.{Verdict, Refused as NotJudged}
 
 -- What the checks come to in the order of that sentence: a refusal, or the requirement that is to be judged.
 pub data Checks : Type 0 where
@@ -43,8 +41,8 @@ by_room trace work list f =
     (pick (ltb list (list_asked trace)) (stop ShortBuffer (list_asked trace)) (go f))
 
 abbrev pub by_trace : Answer → Checks → Checks
-by_trace (Count n) rest = rest
-by_trace (Refused cause place) rest = stop cause place
+by_trace (Ok n) rest = rest
+by_trace (Err why) rest = stop why.cause why.place
 
 abbrev pub by_requirement : List ℕ → ℕ → ℕ → ℕ → Parsed → Checks
 by_requirement trace start work list (whole f) = by_trace (check_trace trace start) (by_room trace work list f)
@@ -69,13 +67,17 @@ pub record Accepted (t : Trace) (f : Requirement) (work list work' list' : List 
   pub listed : list' ≡ over list 0 (position_bytes found)
   pub cleared : work' ≡ replicate (length work) 0
 
+-- What judging answers: a verdict and a count, or a refusal.
+abbrev pub Judgement : Type 0
+Judgement = Result Verdict Refusal
+
 -- What is promised of a judging. "1 to 4 and 9 to 11 change no buffer."
-abbrev pub Judges : Checks → Trace → List ℕ → List ℕ → List ℕ → List ℕ → Judged → Type 0
-Judges (stop cause place) t work list work' list' r = (r ≡ NotJudged cause place) × (work' ≡ work) × (list' ≡ list)
-Judges (go f) t work list work' list' (Verdict holds count) = Accepted t f work list work' list' holds count
-Judges (go f) t work list work' list' (NotJudged cause place) = ⊥
+abbrev pub Judges : Checks → Trace → List ℕ → List ℕ → List ℕ → List ℕ → Judgement → Type 0
+Judges (stop cause place) t work list work' list' r = (r ≡ refused_at cause place) × (work' ≡ work) × (list' ≡ list)
+Judges (go f) t work list work' list' (Ok verdict) = Accepted t f work list work' list' verdict.holds verdict.count
+Judges (go f) t work list work' list' (Err why) = ⊥
 
 -- A judging's answer in the paper's numbers: the verdict as 1 or 0, and the number of findings.
-abbrev pub judged_told : Judged → Told
-judged_told (Verdict holds count) = accepted (digit holds) count
-judged_told (NotJudged cause place) = refusal cause place
+abbrev pub judged_told : Judgement → Told
+judged_told (Ok verdict) = accepted (digit verdict.holds) verdict.count
+judged_told (Err why) = refusal why.cause why.place

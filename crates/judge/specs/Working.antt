@@ -21,7 +21,7 @@ use Rattle.meaning.specs.Rows.{judge, rowed}
 use Rattle.bits.specs.Bits.{bit_b, bit_at, count_b}
 use Rattle.bits.specs.Rows.{row_of}
 use Rattle.lasso.specs.Bytes.{positions, phase_from, phase_number, phase_byte, trace_of}
-use Rattle.judge.specs.declared.Tally.{Tally}
+use Rattle.judge.specs.declared.Verdict.{Verdict}
 
 -- Two tests agree at n positions; so a row's bits may agree with a test.
 abbrev pub Same : ℕ → (ℕ → Bool) → (ℕ → Bool) → Type 0
@@ -101,13 +101,13 @@ abbrev pub failing : List ℕ → (ℕ → Bool) → ℕ → Bool
 failing trace row p = is_at trace Input p && not (row p)
 
 -- What rows, verdict and count promise: the findings' row stands in the first row of work, with nothing behind the last position.
-pub record Tallied (trace : List ℕ) (row : ℕ → Bool) (work : List ℕ) (r : Tally) : Type 0 where
+pub record Tallied (trace : List ℕ) (row : ℕ → Bool) (work : List ℕ) (r : Verdict) : Type 0 where
   pub verdict : r.holds ≡ row 0
   pub found : Same (positions trace) (bit_at work) (failing trace row)
   pub behind : (p : ℕ) → positions trace ≤ p → p < 8 * row_of (positions trace) → bit_at work p ≡ false
   pub count : r.count ≡ count_b (failing trace row) (positions trace)
 
-abbrev pub Tallies : Walked → List ℕ → ℕ → List ℕ → Tally → Type 0
+abbrev pub Tallies : Walked → List ℕ → ℕ → List ℕ → Verdict → Type 0
 Tallies (walked f next) trace start work r = Tallied trace (judge (trace_of trace start) f) work r
 Tallies lost trace start work r = Unit
 

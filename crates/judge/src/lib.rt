@@ -12,23 +12,16 @@ ghost use Rattle.requirement.specs.Walking.{walk_at};
 ghost use Rattle.judge.specs.Judging.{checks_of, Judges};
 ghost use Rattle.judge.specs.Working.{Room, Tallies};
 
-use coding::{Answer, Cause};
+use coding::{Cause, Refusal};
 use operators::MarkedTrace;
-use requirement::{Checked, Kind};
+use requirement::Kind;
 
 // Room for the rows of the three phases.
 const MARKS: usize = 1536;
 
-// What judging answers: whether the requirement holds at moment 0 and how many findings there are, or a refusal.
-#[derive(Clone, Copy)]
-pub enum Judged {
-    Verdict(bool, usize),
-    Refused(Cause, usize),
-}
-
-// The verdict, and how many findings there are.
-#[derive(Clone, Copy)]
-struct Tally {
+// What an accepted judging answers: whether the requirement holds at moment 0, and how many findings there are.
+#[derive(Clone, Copy, Debug, PartialEq, Eq)]
+pub struct Verdict {
     pub holds: bool,
     pub count: usize,
 }
@@ -41,25 +34,22 @@ fn judge_rows(
     trace: &[u8],
     start: usize,
     work: &mut [u8],
-) -> Tally
+) -> Verdict
     requires { (0 < depth) × Room depth trace.now start work.old }
     ensures { Tallies (walk_at kind depth code.now 0) trace.now start work.new result }
 {
     let mut marks = [0u8; MARKS];
     rows::fill_marks(trace, &mut marks);
     let marked = MarkedTrace {
-        trace: trace,
-        start: start,
+        trace,
+        start,
         marks: &marks,
     };
     tree::judge_node(kind, code, 0, depth, &marked, work);
     let holds = work[0] >= 128;
     findings::keep_failing(&marked, work);
     let count = findings::count_row(&work[..marked.row()]);
-    Tally {
-        holds: holds,
-        count: count,
-    }
+    Verdict { holds, count }
 }
 
 // Judges a requirement of the kind told on a trace and its loop start, in the work that is lent; the findings go to the list.
@@ -70,30 +60,23 @@ pub fn judge(
     start: usize,
     work: &mut [u8],
     list: &mut [u8],
-) -> Judged
+) -> Result<Verdict, Refusal>
     ensures { Judges (checks_of kind code.now trace.now start (length work.old) (length list.old))
         (trace_of trace.now start) work.old list.old work.new list.new result }
 {
-    let none = [0u16; 1];
-    match requirement::check(kind, true, code, &none) {
-        Checked::Refused(cause, place) => Judged::Refused(cause, place),
-        Checked::Whole(_, depth) => match lasso::check(trace, start) {
-            Answer::Refused(cause, place) => Judged::Refused(cause, place),
-            Answer::Count(n) => {
-                let row = (n + 7) / 8;
-                let asked = depth as usize * row;
-                if work.len() < asked {
-                    return Judged::Refused(Cause::ShortBuffer, asked);
-                }
-                let wanted = 2 * lasso::count_inputs(trace);
-                if list.len() < wanted {
-                    return Judged::Refused(Cause::ShortBuffer, wanted);
-                }
-                let found = judge_rows(kind, code, depth, trace, start, work);
-                findings::list_row(&work[0..row], list);
-                findings::clear(work);
-                Judged::Verdict(found.holds, found.count)
-            }
-        },
+    let checked = requirement::check(kind, code)?;
+    let n = lasso::check(trace, start)?;
+    let row = (n + 7) / 8;
+    let asked = checked.depth as usize * row;
+    if work.len() < asked {
+        return Err(Cause::ShortBuffer.at(asked));
     }
+    let wanted = 2 * lasso::count_inputs(trace);
+    if list.len() < wanted {
+        return Err(Cause::ShortBuffer.at(wanted));
+    }
+    let verdict = judge_rows(kind, code, checked.depth, trace, start, work);
+    findings::list_row(&work[..row], list);
+    findings::clear(work);
+    Ok(verdict)
 }

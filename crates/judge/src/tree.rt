@@ -6,7 +6,7 @@ ghost use Rattle.judge.specs.Working.{HasRows, Rowed};
 
 use crate::operators::MarkedTrace;
 use crate::rows;
-use requirement::{Kind, Node, NodeRead, One, Two};
+use requirement::{Kind, Node, One, Two};
 
 // The row of the node whose code begins at `at`, in the first row of `work`. The place after its code.
 #[cycle(judge_node_judge_one_judge_two)]
@@ -25,20 +25,21 @@ pub fn judge_node(
         return at;
     }
     let below = depth - 1;
-    match requirement::read_node(kind, code, at) {
-        NodeRead::Fault(_, _) => at,
-        NodeRead::Found(node, next) => match node {
-            Node::Atom(k) => {
-                rows::fill_atom(marked.trace, k as usize, work);
-                next
-            }
-            Node::Mark(mark) => {
-                marked.fill_phase(mark, work);
-                next
-            }
-            Node::OverOne(operator) => judge_one(operator, kind, code, next, below, marked, work),
-            Node::OverTwo(operator) => judge_two(operator, kind, code, next, below, marked, work),
-        },
+    let Ok(found) = requirement::read_node(kind, code, at) else {
+        return at;
+    };
+    let next = found.next;
+    match found.node {
+        Node::Atom(k) => {
+            rows::fill_atom(marked.trace, k as usize, work);
+            next
+        }
+        Node::Mark(mark) => {
+            marked.fill_phase(mark, work);
+            next
+        }
+        Node::OverOne(operator) => judge_one(operator, kind, code, next, below, marked, work),
+        Node::OverTwo(operator) => judge_two(operator, kind, code, next, below, marked, work),
     }
 }
 

@@ -1,4 +1,4 @@
-use mathlib.Core.Path.{sym, ◌∙◌}
+use mathlib.Core.Path.{sym}
 use native.Mathlib.Omega.{arith}
 use lib.ListN.{length, length-take, length-drop}
 use Rattle.requirement.specs.Walking.{walk_at}
@@ -20,45 +20,44 @@ judge_node-fill_atom-requires t c =
       omega (
         arith,
         atom_to_31 a.kind a.code.now a.at _ _
-            (node_found a.kind a.code.now a.at _ c.read_node.ensures c.in-Found.is
-            c.in-Atom.is),
+            (node_found a.kind a.code.now a.at c.in-Ok.ensures c.in-Atom.is),
       ),
       a.marked.now.few,
       room_row a.depth (row_of (positions a.marked.now.trace.now)) c.if-depth-eq0.false c.requires,
     )
 
-pub judge_node-returns-in-Fault : goal.judge_node-returns-in-Fault
-judge_node-returns-in-Fault t c =
+pub judge_node-returns-in_default : goal.judge_node-returns-in_default
+judge_node-returns-in_default t c =
     let a = c.args in
     rowed_fault a.kind a.code.now a.at a.depth a.marked.now.trace.now a.marked.now.start _ _ c.if-depth-eq0.false
-    (sym c.read_node.ensures ∙ c.in-Fault.is)
+    (sym c.in_default.ensures)
 
 pub judge_node-returns-in-Atom : goal.judge_node-returns-in-Atom
 judge_node-returns-in-Atom t c =
     let a = c.args in
     rowed_atom a.kind a.code.now a.at a.depth a.marked.now.trace.now a.marked.now.start _ _ c.if-depth-eq0.false _
-    (node_found a.kind a.code.now a.at _ c.read_node.ensures c.in-Found.is c.in-Atom.is)
+    (node_found a.kind a.code.now a.at c.in-Ok.ensures c.in-Atom.is)
     c.fill_atom.ensures
 
 pub judge_node-returns-in-Mark : goal.judge_node-returns-in-Mark
 judge_node-returns-in-Mark t c =
     let a = c.args in
     rowed_mark a.kind a.code.now a.at a.depth a.marked.now.trace.now a.marked.now.start _ _ c.if-depth-eq0.false _
-    (node_found a.kind a.code.now a.at _ c.read_node.ensures c.in-Found.is c.in-Mark.is)
+    (node_found a.kind a.code.now a.at c.in-Ok.ensures c.in-Mark.is)
     c.fill_phase.ensures.0
 
 pub judge_node-returns-in-OverOne : goal.judge_node-returns-in-OverOne
 judge_node-returns-in-OverOne t c =
     let a = c.args in
     rowed_one a.kind a.code.now a.at a.depth a.marked.now.trace.now a.marked.now.start _ _ c.if-depth-eq0.false _
-    (node_found a.kind a.code.now a.at _ c.read_node.ensures c.in-Found.is c.in-OverOne.is)
+    (node_found a.kind a.code.now a.at c.in-Ok.ensures c.in-OverOne.is)
     c.judge_one.ensures
 
 pub judge_node-returns-in-OverTwo : goal.judge_node-returns-in-OverTwo
 judge_node-returns-in-OverTwo t c =
     let a = c.args in
     rowed_two a.kind a.code.now a.at a.depth a.marked.now.trace.now a.marked.now.start _ _ c.if-depth-eq0.false _
-    (node_found a.kind a.code.now a.at _ c.read_node.ensures c.in-Found.is c.in-OverTwo.is)
+    (node_found a.kind a.code.now a.at c.in-Ok.ensures c.in-OverTwo.is)
     c.judge_two.ensures
 
 pub judge_one-returns-then-depth-eq0 : goal.judge_one-returns-then-depth-eq0
