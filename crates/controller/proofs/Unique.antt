@@ -29,6 +29,8 @@ use Rattle.controller.proofs.at_start.Kinds as at_start
 use Rattle.controller.proofs.at_start.Reads as at_start_reads
 use Rattle.controller.proofs.action_of.Kinds as action_of
 use Rattle.controller.proofs.action_of.Reads as action_of_reads
+use Rattle.controller.proofs.value_at.Kinds as value_at
+use Rattle.controller.proofs.value_at.Reads as value_at_reads
 use Rattle.controller.proofs.tests.compares.Kinds as compares
 use Rattle.controller.proofs.tests.holds.Kinds as holds
 use Rattle.controller.proofs.tests.compares.Reads as compares_reads
@@ -78,3 +80,7 @@ module _ (κs : Lfts 0) where
   pub holds_unique : (r t : Bool) (a : Dens κs holds.ps) (e f : AtExit (ended_of 0 holds.ps holds.r) κs) →
       holds_reads.Post κs a r e → holds_reads.Post κs a t f → r ≡ t
   holds_unique r t a e f p q = p ∙ sym q
+
+pub value_at_unique : (κs : Lfts 1) (r t : ℕ) (a : Dens κs value_at.ps) (e f : AtExit (ended_of 1 value_at.ps value_at.r) κs) →
+    value_at_reads.Post κs a r e → value_at_reads.Post κs a t f → r ≡ t
+value_at_unique κs r t a e f p q = p ∙ sym q
