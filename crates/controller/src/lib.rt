@@ -23,7 +23,8 @@ const VARIABLES: usize = 32;
 
 const PROCESSES: usize = 8;
 
-// A process: its functional state (0 stop, 1 upward active, 255 err), its action counter (0 past the end of the body) and its timer.
+// A process: its functional state (0 stop, 1 upward active, 255 err), its action counter (0 past the end of the body) and
+// its timer.
 #[derive(Clone, Copy, PartialEq, Eq, Debug)]
 pub struct Process {
     pub state: u16,
@@ -72,7 +73,8 @@ pub enum Outcome {
     NoRule,
 }
 
-// What a rule makes of the variables, the acting process's record and the record of the other process that the action names.
+// What a rule makes of the variables, the acting process's record and the record of the other process that the action
+// names.
 #[derive(Clone, Copy, PartialEq, Eq, Debug)]
 pub struct Done {
     pub outcome: Outcome,
@@ -112,6 +114,7 @@ fn slot(i: u16) -> usize
 }
 
 // The action that the numbers op, x and y code.
+#[tactic(auto, unfolding(crate::specs::Actions::action_of))]
 pub fn action_of(op: u16, x: u16, y: u16) -> Action
     ensures { result ≡ action_of op x y }
 {
@@ -157,7 +160,7 @@ impl Controller {
 
     // The state with a record for process i.
     fn with_process(self, i: u16, p: Process) -> Controller
-        ensures { result ≡ record { variables = self.variables; processes = with_record self.processes i p; counter = self.counter } }
+        ensures { result ≡ record self { processes = with_record self.processes i p } }
     {
         let mut c = self;
         put(&mut c.processes, slot(i), p);

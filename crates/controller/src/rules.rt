@@ -1,7 +1,8 @@
 // The rules of the actions, over values.
 ghost use Rattle.std.specs.Prelude.{◌≡◌, set};
 ghost use Rattle.controller.specs.State.{up, goes, timed, entering, stopped, raised};
-ghost use Rattle.controller.specs.Rules.{stays, new_value, updated, waited, restarted, rule_of, named_by, counter_after};
+ghost use Rattle.controller.specs.Rules.{stays, new_value, updated, waited, restarted, rule_of};
+ghost use Rattle.controller.specs.Rules.{named_by, counter_after};
 
 use crate::Outcome::{NoRule, Passes, Stays};
 use crate::{Action, Done, NONE, Outcome, Process, Update, VARIABLES, put, value_at};
@@ -57,7 +58,8 @@ impl Process {
     }
 }
 
-// What a rule is over, and makes another of: the variables, the record of the process that acts and the record of the other process that the action names.
+// What a rule is over, and makes others of: the variables, the record of the process that acts and the record of the
+// other process that the action names.
 #[derive(Clone, Copy)]
 pub struct Parts {
     pub variables: [u32; VARIABLES],
@@ -85,29 +87,31 @@ impl Parts {
 
     // Variable x has another value, where there is such a variable.
     fn with_value(self, x: u16, value: u32) -> Parts
-        ensures { result ≡ record { variables = set self.variables x value; own = self.own; other = self.other } }
+        ensures { result ≡ record self { variables = set self.variables x value } }
     {
         let mut variables = self.variables;
         put(&mut variables, x as usize, value);
         Parts { variables, ..self }
     }
 
-    // The acting process has another record; the process that the action names has another.
+    // The process that acts has another record.
     fn with_own(self, own: Process) -> Parts
-        ensures { result ≡ record { variables = self.variables; own = own; other = self.other } }
+        ensures { result ≡ record self { own = own } }
     {
         Parts { own, ..self }
     }
 
+    // The process that the action names has another record.
     fn with_other(self, other: Process) -> Parts
-        ensures { result ≡ record { variables = self.variables; own = self.own; other = other } }
+        ensures { result ≡ record self { other = other } }
     {
         Parts { other, ..self }
     }
 
     // The rule is done, and comes to this for the turn.
     fn done(self, outcome: Outcome) -> Done
-        ensures { result ≡ record { outcome = outcome; variables = self.variables; own = self.own; other = self.other } }
+        ensures { result
+            ≡ record { outcome = outcome; variables = self.variables; own = self.own; other = self.other } }
     {
         let variables = self.variables;
         Done {

@@ -2,7 +2,7 @@
 ghost use Rattle.std.specs.Prelude.{◌≡◌};
 ghost use Rattle.std.specs.Cmp.Lexicographic.{pointwise};
 
-// All places are looked at, whether or not one is found to differ: that is quicker than to stop.
+// All places are looked at, whether or not one is found to differ: that is quicker than to stop, as `==` does.
 pub fn all_same<T: PartialEq, const N: usize>(v: &[T; N], w: &[T; N]) -> bool
     ensures { result ≡ pointwise T.eq v.now w.now }
 {

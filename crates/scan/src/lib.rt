@@ -13,7 +13,8 @@ use controller::Controller;
 use lookups::{ActionRow, TestRow};
 use requirement::Phase;
 
-// Whether a test is true of a state. A test of a process sees no variable, and one of a variable no process: only what it sees is fetched.
+// Whether a test is true of a state. A test of a process sees no variable, and one of a variable no process: only what
+// it sees is fetched.
 fn test_holds(test: TestRow, c: Controller) -> bool
     ensures { result ≡ truth test.kind test.b (value_at c.variables test.a) (state_at (states_of c.processes) test.a) }
 {
