@@ -16,7 +16,7 @@ fn up(n: u16) -> u16
 
 impl Process {
     // A process that enters a state at an action, without a timer.
-    pub fn entering(state: u16, action: u16) -> Process
+    pub(crate) fn entering(state: u16, action: u16) -> Process
         ensures { result ≡ entering state action }
     {
         Process {
@@ -26,7 +26,8 @@ impl Process {
         }
     }
 
-    pub fn stopped() -> Process
+    // A stopped process.
+    pub(crate) fn stopped() -> Process
         ensures { result ≡ stopped }
     {
         Process::entering(0, 0)
@@ -46,8 +47,9 @@ impl Process {
         Process { timer: t, ..self }
     }
 
-    // The process after a read: its timer up by 1 if it runs, staying at the highest number of 16 bits.
-    pub fn raised(self) -> Process
+    // The process after a read: its timer up by 1 if it runs, staying at the highest number of 16 bits. No timer is a
+    // number above that, and stays.
+    pub(crate) fn raised(self) -> Process
         ensures { result ≡ raised self }
     {
         let t = self.timer;
