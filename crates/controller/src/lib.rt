@@ -15,7 +15,8 @@ ghost use Rattle.controller.specs.Seen.{same_seen};
 
 use rules::Parts;
 
-// No value, and no timer: above every number of the coding.
+// No value, and no timer: above every number of the coding. It stays a number, and no Option: other crates read the
+// state's fields, and the theorem `same_is_equal` speaks of them.
 pub const NONE: u32 = 65536;
 
 // How many variables and how many processes a controller has room for.
@@ -23,8 +24,8 @@ const VARIABLES: usize = 32;
 
 const PROCESSES: usize = 8;
 
-// A process: its functional state (0 stop, 1 upward active, 255 err), its action counter (0 past the end of the body) and
-// its timer.
+// A process: its functional state (0 stop, 1 upward active, 255 err), its action counter (0 past the end of the body)
+// and its timer.
 #[derive(Clone, Copy, PartialEq, Eq, Debug)]
 pub struct Process {
     pub state: u16,
@@ -97,7 +98,8 @@ pub fn value_at(variables: &[u32], x: u16) -> u32
     variables.get(x as usize).copied().unwrap_or(NONE)
 }
 
-// An element stored at a place of a list, if the list has such a place.
+// An element stored at a place of a list, if the list has such a place. std's `get_mut` says what it lends, and not
+// what the list is after a store to that.
 pub fn put<T: Copy>(list: &mut [T], at: usize, x: T)
     ensures { list.new ≡ set list.old at x }
 {
@@ -113,7 +115,8 @@ fn slot(i: u16) -> usize
     (i as usize).saturating_sub(1)
 }
 
-// The action that the numbers op, x and y code.
+// The action that the numbers op, x and y code. They are numbers since its promise is on any three, also on such as
+// code no action.
 #[tactic(auto, unfolding(crate::specs::Actions::action_of))]
 pub fn action_of(op: u16, x: u16, y: u16) -> Action
     ensures { result ≡ action_of op x y }
