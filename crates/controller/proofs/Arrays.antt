@@ -1,25 +1,13 @@
--- A place outside an array: what is read there, and what storing there leaves. A place inside it: nothing else is read in its stead.
+-- Arrays: what owning a struct's array of structs tells of its length, and that a place inside a list is read with any default.
 -- Assumes nothing.
-use Prim.Native.Nat.{ℕ, zero, suc, ◌<◌, ◌≤◌}
+use Prim.Native.Nat.{ℕ, zero, suc, ◌<◌}
 use mathlib.Core.Path.{◌≡◌, refl, sym, ◌∙◌}
 use mathlib.Core.List.{List, [], ◌∷◌, map}
 use native.Mathlib.Omega.{arith}
-use lib.ListN.{length, length-map, get_or, set, get_or-eq_default}
-use lib.Seq.{set_out}
+use lib.ListN.{length, length-map, get_or}
 
--- what owning a struct's array of structs tells of its length
 pub mapped : (X Y : Type 0) (f : X → Y) (l : List X) (n : ℕ) → length (map f l) ≡ n → length l ≡ n
 mapped X Y f l n e = sym (length-map l f) ∙ e
-
-module _ {A : Type 0} (l : List A) (i : ℕ) (a : A) (n : ℕ) (e : length l ≡ n) (h : n ≤ i) where
-  past : length l ≤ i
-  past = omega (arith, e, h)
-
-  pub outside : a ≡ get_or l i a
-  outside = sym (get_or-eq_default l a past)
-
-  pub set_outside : set l i a ≡ l
-  set_outside = set_out l i a past
 
 found : {A : Type 0} (l : List A) (i : ℕ) (a b : A) → i < length l → get_or l i a ≡ get_or l i b
 found [] i a b h = absurd (omega arith)

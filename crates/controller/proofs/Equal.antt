@@ -1,28 +1,41 @@
--- Two states are the same, in the sense of specs/Same.antt, just where they are equal as records.
+-- Two states are the same, in the sense of specs/Same.antt, just where they are equal as records, and just where the derived `==` says so.
 -- Assumes nothing.
 use Prim.Native.Nat.{ℕ}
-use mathlib.Core.Path.{◌≡◌, refl, subst}
-use mathlib.Core.Bool.{true}
-use mathlib.Core.List.{List}
+use mathlib.Core.Path.{◌≡◌, refl, sym, ap, subst, ◌∙◌}
+use mathlib.Core.Bool.{Bool, true, false, ◌&&◌}
+use mathlib.Core.List.{List, [], ◌∷◌}
 use lib.Dec.{eqb}
+use lib.Pointwise.{pointwise}
 use borrow.Author.Tests.{eqb-true, eq-eqb}
+use Rattle.std.specs.Bool.{Decides}
+use Rattle.std.proofs.lemmas.Bool.Decides.{Decides-eqb}
+use Rattle.std.proofs.lemmas.Slice.Eq.{slice_eq-Decides}
+use Rattle.controller.specs.contracts.ProcessPartialEq.TheImpl as process
+use Rattle.controller.specs.contracts.ControllerPartialEq.TheImpl as controller
 use Rattle.controller.specs.declared.Process.{Process}
 use Rattle.controller.specs.declared.Controller.{Controller}
 use Rattle.controller.specs.State.{states_of}
 use Rattle.controller.specs.Same.{same_values, same_record, same_records, same_state}
 use Rattle.controller.specs.Seen.{same_seen}
-use Rattle.controller.proofs.Lists.{both, alike_equal, alike_itself}
-use Rattle.controller.proofs.Alike.{no_values, a_value, fewer_values, more_values, no_records, a_record, fewer_records, more_records}
 
-itself : (n : ℕ) → eqb n n ≡ true
-itself n = eq-eqb n n refl
+-- of two tests that are both passed
+both : (a b : Bool) → (a && b) ≡ true → (a ≡ true) × (b ≡ true)
+both true b e = (refl, e)
+both false b e = absurd (let z : ◌≡◌ {A = Bool} false true = e in cc)
 
 -- lists of values
-pub same_values_equal : (v w : List ℕ) → same_values v w ≡ true → v ≡ w
-same_values_equal = alike_equal eqb same_values no_values a_value fewer_values more_values eqb-true
+pub eq_is_same_values : (v w : List ℕ) → pointwise eqb v w ≡ same_values v w
+unfolding same_values
+eq_is_same_values [] [] = refl
+eq_is_same_values [] (y ∷ ys) = refl
+eq_is_same_values (x ∷ xs) [] = refl
+eq_is_same_values (x ∷ xs) (y ∷ ys) = ap (λ (b : Bool). eqb x y && b) (eq_is_same_values xs ys)
 
-same_values_itself : (v : List ℕ) → same_values v v ≡ true
-same_values_itself = alike_itself eqb same_values no_values a_value itself
+same_values_decide : (v w : List ℕ) → Decides (same_values v w) (v ≡ w)
+same_values_decide v w = slice_eq-Decides Decides-eqb v w _ (sym (eq_is_same_values v w))
+
+pub same_values_equal : (v w : List ℕ) → same_values v w ≡ true → v ≡ w
+same_values_equal v w = (same_values_decide v w).0
 
 -- a record, and lists of records
 pub same_record_equal : (p q : Process) → same_record p q ≡ true → p ≡ q
@@ -36,15 +49,36 @@ same_record_equal p q e =
       timer = eqb-true p.timer q.timer k.1 i;
     }
 
-same_record_itself : (p : Process) → same_record p p ≡ true
+itself : (n : ℕ) → eqb n n ≡ true
+itself n = eq-eqb n n refl
+
+same_record_itself : (p q : Process) → p ≡ q → same_record p q ≡ true
 unfolding same_record
-same_record_itself p = rw (itself p.state, itself p.action, itself p.timer) refl
+same_record_itself p q e = rw (← e, itself p.state, itself p.action, itself p.timer) refl
+
+eq_is_same_record : (p q : Process) → process.eq-value.it p q ≡ same_record p q
+unfolding same_record
+eq_is_same_record p q = refl
+
+eq_is_same_records : (v w : List Process) → pointwise process.eq-value.it v w ≡ same_records v w
+unfolding same_records
+eq_is_same_records [] [] = refl
+eq_is_same_records [] (q ∷ qs) = refl
+eq_is_same_records (p ∷ ps) [] = refl
+eq_is_same_records (p ∷ ps) (q ∷ qs) = rw (eq_is_same_record p q, eq_is_same_records ps qs) refl
+
+same_records_decide : (v w : List Process) → Decides (same_records v w) (v ≡ w)
+same_records_decide v w =
+    slice_eq-Decides (λ p q. (λ e. same_record_equal p q (sym (eq_is_same_record p q) ∙ e), λ e. eq_is_same_record p q ∙ same_record_itself p q e))
+    v w _ (sym (eq_is_same_records v w))
 
 pub same_records_equal : (v w : List Process) → same_records v w ≡ true → v ≡ w
-same_records_equal = alike_equal same_record same_records no_records a_record fewer_records more_records same_record_equal
+same_records_equal v w = (same_records_decide v w).0
 
-same_records_itself : (v : List Process) → same_records v v ≡ true
-same_records_itself = alike_itself same_record same_records no_records a_record same_record_itself
+-- the derived `==` of two states is `same_state`
+pub eq_is_same_state : (c d : Controller) → controller.eq-value.it c d ≡ same_state c d
+unfolding same_state
+eq_is_same_state c d = rw (eq_is_same_values c.variables d.variables, eq_is_same_records c.processes d.processes) refl
 
 -- whole states
 pub same_is_equal : (c d : Controller) → same_state c d ≡ true → c ≡ d
@@ -60,7 +94,7 @@ same_is_equal c d e =
 
 state_itself : (c : Controller) → same_state c c ≡ true
 unfolding same_state
-state_itself c = rw (same_values_itself c.variables, same_records_itself c.processes, itself c.counter) refl
+state_itself c = rw ((same_values_decide c.variables c.variables).1 refl, (same_records_decide c.processes c.processes).1 refl, itself c.counter) refl
 
 pub equal_is_same : (c d : Controller) → c ≡ d → same_state c d ≡ true
 equal_is_same c d e = subst (λ (x : Controller). same_state c x ≡ true) e (state_itself c)

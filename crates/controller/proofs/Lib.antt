@@ -1,7 +1,4 @@
 pub mod Arrays
-pub mod Cases
-pub mod Raising
-pub mod Lists
-pub mod Alike
+pub mod Mapped
 pub mod Equal
 pub mod Unique

@@ -5,15 +5,18 @@ mod rules;
 mod same;
 pub mod tests;
 
-ghost use Rattle.std.specs.Prelude.{◌≡◌, ◌-◌};
+ghost use Rattle.std.specs.Prelude.{◌≡◌, ◌-◌, set};
 ghost use Rattle.ranges.specs.Limits.{most_processes};
-ghost use Rattle.controller.specs.State.{start, record_at, with_record, states_of, all_raised};
+ghost use Rattle.controller.specs.State.{start, value_at, record_at, with_record, states_of, all_raised};
 ghost use Rattle.controller.specs.Rules.{act_of};
 ghost use Rattle.controller.specs.Actions.{action_of};
 ghost use Rattle.controller.specs.Same.{same_state};
 ghost use Rattle.controller.specs.Seen.{same_seen};
 
-// No value, and no timer: above every number of the coding.
+use rules::Parts;
+
+// No value, and no timer: above every number of the coding. It stays a number, and no Option: other crates read the
+// state's fields, and the theorem `same_is_equal` speaks of them.
 pub const NONE: u32 = 65536;
 
 // How many variables and how many processes a controller has room for.
@@ -21,8 +24,9 @@ const VARIABLES: usize = 32;
 
 const PROCESSES: usize = 8;
 
-// A process: its functional state (0 stop, 1 upward active, 255 err), its action counter (0 past the end of the body) and its timer.
-#[derive(Clone, Copy)]
+// A process: its functional state (0 stop, 1 upward active, 255 err), its action counter (0 past the end of the body)
+// and its timer.
+#[derive(Clone, Copy, PartialEq, Eq, Debug)]
 pub struct Process {
     pub state: u16,
     pub action: u16,
@@ -30,7 +34,7 @@ pub struct Process {
 }
 
 // The state: each variable's value, each process's record and the process counter.
-#[derive(Clone, Copy)]
+#[derive(Clone, Copy, PartialEq, Eq, Debug)]
 pub struct Controller {
     pub variables: [u32; VARIABLES],
     pub processes: [Process; PROCESSES],
@@ -38,7 +42,7 @@ pub struct Controller {
 }
 
 // An update of a variable: by a number, by another variable, or by its own value plus a number.
-#[derive(Clone, Copy)]
+#[derive(Clone, Copy, PartialEq, Eq, Debug)]
 pub enum Update {
     Constant(u16),
     Copy(u16),
@@ -46,7 +50,7 @@ pub enum Update {
 }
 
 // An action: the two implied ones, then ops 1 to 12.
-#[derive(Clone, Copy)]
+#[derive(Clone, Copy, PartialEq, Eq, Debug)]
 pub enum Action {
     Skip,
     End,
@@ -63,15 +67,16 @@ pub enum Action {
 }
 
 // What an action comes to for the turn: the process keeps it, passes it on, or has no rule for the action.
-#[derive(Clone, Copy)]
+#[derive(Clone, Copy, PartialEq, Eq, Debug)]
 pub enum Outcome {
     Stays,
     Passes,
     NoRule,
 }
 
-// What a rule makes of the variables, the acting process's record and the record of the other process that the action names.
-#[derive(Clone, Copy)]
+// What a rule makes of the variables, the acting process's record and the record of the other process that the action
+// names.
+#[derive(Clone, Copy, PartialEq, Eq, Debug)]
 pub struct Done {
     pub outcome: Outcome,
     pub variables: [u32; VARIABLES],
@@ -80,23 +85,39 @@ pub struct Done {
 }
 
 // What one action makes of the whole state.
-#[derive(Clone, Copy)]
+#[derive(Clone, Copy, PartialEq, Eq, Debug)]
 pub struct Acted {
     pub outcome: Outcome,
     pub state: Controller,
+}
+
+// The value of variable x; none where there is no such variable.
+pub fn value_at(variables: &[u32], x: u16) -> u32
+    ensures { result ≡ value_at variables.now x }
+{
+    variables.get(x as usize).copied().unwrap_or(NONE)
+}
+
+// An element stored at a place of a list, if the list has such a place. std's `get_mut` says what it lends, and not
+// what the list is after a store to that.
+pub fn put<T: Copy>(list: &mut [T], at: usize, x: T)
+    ensures { list.new ≡ set list.old at x }
+{
+    if at < list.len() {
+        list[at] = x;
+    }
 }
 
 // The place of process i, which is counted from 1.
 fn slot(i: u16) -> usize
     ensures { result ≡ i - 1 }
 {
-    if i == 0 {
-        return 0;
-    }
-    i as usize - 1
+    (i as usize).saturating_sub(1)
 }
 
-// The action that the numbers op, x and y code.
+// The action that the numbers op, x and y code. They are numbers since its promise is on any three, also on such as
+// code no action.
+#[tactic(auto, unfolding(crate::specs::Actions::action_of))]
 pub fn action_of(op: u16, x: u16, y: u16) -> Action
     ensures { result ≡ action_of op x y }
 {
@@ -120,11 +141,11 @@ pub fn action_of(op: u16, x: u16, y: u16) -> Action
 pub fn at_start() -> Controller
     ensures { result ≡ start most_processes }
 {
-    let mut processes = [rules::stopped(); PROCESSES];
-    processes[0] = rules::entering(1, 1);
+    let mut processes = [Process::stopped(); PROCESSES];
+    processes[0] = Process::entering(1, 1);
     Controller {
         variables: [NONE; VARIABLES],
-        processes: processes,
+        processes,
         counter: 0,
     }
 }
@@ -134,33 +155,18 @@ impl Controller {
     pub fn process(self, i: u16) -> Process
         ensures { result ≡ record_at self.processes i }
     {
-        let at = slot(i);
-        if at < PROCESSES {
-            return self.processes[at];
-        }
-        rules::stopped()
+        self.processes
+            .get(slot(i))
+            .copied()
+            .unwrap_or(Process::stopped())
     }
 
     // The state with a record for process i.
     fn with_process(self, i: u16, p: Process) -> Controller
-        ensures { result ≡ record { variables = self.variables; processes = with_record self.processes i p; counter = self.counter } }
-    {
-        let at = slot(i);
-        let mut c = self;
-        if at < PROCESSES {
-            c.processes[at] = p;
-            return c;
-        }
-        c
-    }
-
-    // The state with these variables and this counter.
-    fn with_rest(self, variables: [u32; VARIABLES], counter: u16) -> Controller
-        ensures { result ≡ record { variables = variables; processes = self.processes; counter = counter } }
+        ensures { result ≡ record self { processes = with_record self.processes i p } }
     {
         let mut c = self;
-        c.variables = variables;
-        c.counter = counter;
+        put(&mut c.processes, slot(i), p);
         c
     }
 
@@ -169,23 +175,25 @@ impl Controller {
         ensures { result ≡ act_of i action next self }
     {
         let named = rules::named_by(action, i);
-        let own = self.process(i);
-        let other = self.process(named);
         let variables = self.variables;
-        let counter = self.counter;
-        let done = rules::rule_of(action, next, variables, own, other);
-        let outcome = done.outcome;
-        let new_other = done.other;
-        let new_own = done.own;
-        let new_variables = done.variables;
-        let new_counter = rules::counter_after(outcome, counter);
+        let parts = Parts {
+            variables,
+            own: self.process(i),
+            other: self.process(named),
+        };
+        let done = parts.rule_of(action, next);
         let state = self
-            .with_process(named, new_other)
-            .with_process(i, new_own)
-            .with_rest(new_variables, new_counter);
+            .with_process(named, done.other)
+            .with_process(i, done.own);
+        let variables = done.variables;
+        let counter = rules::counter_after(done.outcome, self.counter);
         Acted {
-            outcome: outcome,
-            state: state,
+            outcome: done.outcome,
+            state: Controller {
+                variables,
+                counter,
+                ..state
+            },
         }
     }
 
@@ -193,72 +201,36 @@ impl Controller {
     pub fn raise_timers(self) -> Controller
         ensures { result ≡ record { variables = self.variables; processes = all_raised self.processes; counter = self.counter } }
     {
-        let mut c = self;
-        let mut at: usize = 0;
-        while at < PROCESSES {
-            let p = c.processes[at];
-            c.processes[at] = rules::raised(p);
-            at += 1;
-        }
-        c
+        let processes = self.processes.map(Process::raised);
+        Controller { processes, ..self }
     }
 
     // The functional states of the processes.
     pub fn states(self) -> [u16; PROCESSES]
         ensures { result ≡ states_of self.processes }
     {
-        let mut states = [0u16; PROCESSES];
-        let mut at: usize = 0;
-        while at < PROCESSES {
-            let p = self.processes[at];
-            states[at] = p.state;
-            at += 1;
-        }
-        states
+        self.processes.map(|process| process.state)
     }
 
     // The state with another counter.
     pub fn with_counter(self, counter: u16) -> Controller
         ensures { result ≡ record { variables = self.variables; processes = self.processes; counter = counter } }
     {
-        let mut c = self;
-        c.counter = counter;
-        c
+        Controller { counter, ..self }
     }
 
     // Whether two states are the same to tests: in their values and functional states.
     pub fn seen_as(self, other: Controller) -> bool
         ensures { result ≡ same_seen self other }
     {
-        let values = self.variables;
-        let other_values = other.variables;
-        let same = same::values(values, other_values);
-        if !same {
-            return false;
-        }
-        let records = self.processes;
-        let other_records = other.processes;
-        same::states(records, other_records)
+        same::all_same(&self.variables, &other.variables)
+            && same::all_same(&self.states(), &other.states())
     }
 
     // Whether two states are the same.
     pub fn same_as(self, other: Controller) -> bool
         ensures { result ≡ same_state self other }
     {
-        let values = self.variables;
-        let other_values = other.variables;
-        let same = same::values(values, other_values);
-        if !same {
-            return false;
-        }
-        let records = self.processes;
-        let other_records = other.processes;
-        let alike = same::records(records, other_records);
-        if !alike {
-            return false;
-        }
-        let n = self.counter;
-        let m = other.counter;
-        n == m
+        self == other
     }
 }

@@ -1,223 +1,195 @@
 // The rules of the actions, over values.
-ghost use Rattle.std.specs.Prelude.{◌≡◌};
-ghost use Rattle.controller.specs.State.{up, goes, timed, entering, stopped, value_at, raised};
-ghost use Rattle.controller.specs.Rules.{stays, passes, no_rule_done, new_value, updated, elapsed, waited, restarted, rule_of, named_by, counter_after};
+ghost use Rattle.std.specs.Prelude.{◌≡◌, set};
+ghost use Rattle.controller.specs.State.{up, goes, timed, entering, stopped, raised};
+ghost use Rattle.controller.specs.Rules.{stays, new_value, updated, waited, restarted, rule_of};
+ghost use Rattle.controller.specs.Rules.{named_by, counter_after};
 
-use crate::{Action, Done, NONE, Outcome, Process, Update};
+use crate::Outcome::{NoRule, Passes, Stays};
+use crate::{Action, Done, NONE, Outcome, Process, Update, VARIABLES, put, value_at};
 
 // One more, staying at the highest number of 16 bits.
 fn up(n: u16) -> u16
     ensures { result ≡ up n }
 {
-    if n < 65535 {
-        return n + 1;
-    }
-    n
+    n.saturating_add(1)
 }
 
-// The process at action k of its state.
-fn goes(p: Process, k: u16) -> Process
-    ensures { result ≡ goes p k }
-{
-    Process {
-        state: p.state,
-        action: k,
-        timer: p.timer,
-    }
-}
-
-// The process with its timer at t.
-fn timed(p: Process, t: u32) -> Process
-    ensures { result ≡ timed p t }
-{
-    Process {
-        state: p.state,
-        action: p.action,
-        timer: t,
-    }
-}
-
-// A process that enters a state at an action, without a timer.
-pub fn entering(f: u16, a: u16) -> Process
-    ensures { result ≡ entering f a }
-{
-    Process {
-        state: f,
-        action: a,
-        timer: NONE,
-    }
-}
-
-pub fn stopped() -> Process
-    ensures { result ≡ stopped }
-{
-    entering(0, 0)
-}
-
-// The process after a read: its timer up by 1 if it runs.
-pub fn raised(p: Process) -> Process
-    ensures { result ≡ raised p }
-{
-    let t = p.timer;
-    if t == NONE {
-        return p;
-    }
-    if t < 65535 {
-        return timed(p, t + 1);
-    }
-    timed(p, t)
-}
-
-fn value_at(variables: [u32; 32], x: u16) -> u32
-    ensures { result ≡ value_at variables x }
-{
-    let at = x as usize;
-    if at < 32 {
-        return variables[at];
-    }
-    NONE
-}
-
-fn new_value(variables: [u32; 32], x: u16, update: Update) -> u32
-    ensures { result ≡ new_value variables x update }
-{
-    match update {
-        Update::Constant(d) => d as u32,
-        Update::Copy(y) => value_at(variables, y),
-        Update::Add(d) => {
-            let old = value_at(variables, x);
-            if old == NONE {
-                return NONE;
-            }
-            (old % 65536 + d as u32) % 65536
+impl Process {
+    // A process that enters a state at an action, without a timer.
+    pub(crate) fn entering(state: u16, action: u16) -> Process
+        ensures { result ≡ entering state action }
+    {
+        Process {
+            state,
+            action,
+            timer: NONE,
         }
     }
-}
 
-// The three ways in which a rule ends.
-fn stays(variables: [u32; 32], own: Process, other: Process) -> Done
-    ensures { result ≡ stays variables own other }
-{
-    let outcome = Outcome::Stays;
-    Done {
-        outcome: outcome,
-        variables: variables,
-        own: own,
-        other: other,
+    // A stopped process.
+    pub(crate) fn stopped() -> Process
+        ensures { result ≡ stopped }
+    {
+        Process::entering(0, 0)
+    }
+
+    // The process at action k of its state.
+    fn goes(self, k: u16) -> Process
+        ensures { result ≡ goes self k }
+    {
+        Process { action: k, ..self }
+    }
+
+    // The process with its timer at t.
+    fn timed(self, t: u32) -> Process
+        ensures { result ≡ timed self t }
+    {
+        Process { timer: t, ..self }
+    }
+
+    // The process after a read: its timer up by 1 if it runs, staying at the highest number of 16 bits. No timer is a
+    // number above that, and stays.
+    pub(crate) fn raised(self) -> Process
+        ensures { result ≡ raised self }
+    {
+        let t = self.timer;
+        if t < 65535 {
+            return self.timed(t + 1);
+        }
+        self
     }
 }
 
-fn passes(variables: [u32; 32], own: Process, other: Process) -> Done
-    ensures { result ≡ passes variables own other }
-{
-    let outcome = Outcome::Passes;
-    Done {
-        outcome: outcome,
-        variables: variables,
-        own: own,
-        other: other,
-    }
+// What a rule is over, and makes others of: the variables, the record of the process that acts and the record of the
+// other process that the action names.
+#[derive(Clone, Copy)]
+pub struct Parts {
+    pub variables: [u32; VARIABLES],
+    pub own: Process,
+    pub other: Process,
 }
 
-fn no_rule(variables: [u32; 32], own: Process, other: Process) -> Done
-    ensures { result ≡ no_rule_done variables own other }
-{
-    let outcome = Outcome::NoRule;
-    Done {
-        outcome: outcome,
-        variables: variables,
-        own: own,
-        other: other,
+impl Parts {
+    // The value that an update gives variable x.
+    fn new_value(self, x: u16, update: Update) -> u32
+        ensures { result ≡ new_value self.variables x update }
+    {
+        match update {
+            Update::Constant(d) => d as u32,
+            Update::Copy(y) => value_at(&self.variables, y),
+            Update::Add(d) => {
+                let old = value_at(&self.variables, x);
+                if old == NONE {
+                    return NONE;
+                }
+                (old % 65536 + d as u32) % 65536
+            }
+        }
     }
-}
 
-// Variable x takes its new value, and the body goes on at k.
-fn updated(
-    x: u16,
-    update: Update,
-    k: u16,
-    variables: [u32; 32],
-    own: Process,
-    other: Process,
-) -> Done
-    ensures { result ≡ updated x update k variables own other }
-{
-    let value = new_value(variables, x, update);
-    let at = x as usize;
-    let mut v = variables;
-    if at < 32 {
-        v[at] = value;
-        return stays(v, goes(own, k), other);
+    // Variable x has another value, where there is such a variable.
+    fn with_value(self, x: u16, value: u32) -> Parts
+        ensures { result ≡ record self { variables = set self.variables x value } }
+    {
+        let mut variables = self.variables;
+        put(&mut variables, x as usize, value);
+        Parts { variables, ..self }
     }
-    stays(v, goes(own, k), other)
-}
 
-// Whether a timer has reached its bound.
-fn elapsed(timer: u32, bound: u16) -> bool
-    ensures { result ≡ elapsed timer bound }
-{
-    timer == bound as u32
-}
+    // The process that acts has another record.
+    fn with_own(self, own: Process) -> Parts
+        ensures { result ≡ record self { own = own } }
+    {
+        Parts { own, ..self }
+    }
 
-// tout: the timer is started, waited for, or has elapsed.
-fn waited(bound: u16, k: u16, variables: [u32; 32], own: Process, other: Process) -> Done
-    ensures { result ≡ waited bound k variables own other }
-{
-    let t = own.timer;
-    if t == NONE {
-        return passes(variables, timed(goes(own, 1), 0), other);
+    // The process that the action names has another record.
+    fn with_other(self, other: Process) -> Parts
+        ensures { result ≡ record self { other = other } }
+    {
+        Parts { other, ..self }
     }
-    if t < bound as u32 {
-        return passes(variables, goes(own, 1), other);
-    }
-    if elapsed(t, bound) {
-        return stays(variables, timed(goes(own, k), NONE), other);
-    }
-    no_rule(variables, own, other)
-}
 
-// reset: the timer, if it runs, is started anew.
-fn restarted(variables: [u32; 32], own: Process, other: Process) -> Done
-    ensures { result ≡ restarted variables own other }
-{
-    let t = own.timer;
-    if t == NONE {
-        return no_rule(variables, own, other);
+    // The rule is done, and comes to this for the turn.
+    fn done(self, outcome: Outcome) -> Done
+        ensures { result
+            ≡ record { outcome = outcome; variables = self.variables; own = self.own; other = self.other } }
+    {
+        let variables = self.variables;
+        Done {
+            outcome,
+            variables,
+            own: self.own,
+            other: self.other,
+        }
     }
-    passes(variables, timed(goes(own, 1), 0), other)
-}
 
-// set, start and next: the process enters state f at its first action, and keeps the turn.
-fn enters(f: u16, variables: [u32; 32], other: Process) -> Done
-    ensures { result ≡ stays variables (entering f 1) other }
-{
-    let own = entering(f, 1);
-    let turn = Outcome::Stays;
-    Done {
-        outcome: turn,
-        variables: variables,
-        own: own,
-        other: other,
+    // Variable x takes its new value, and the body goes on at k.
+    fn updated(self, x: u16, update: Update, k: u16) -> Done
+        ensures { result ≡ updated x update k self.variables self.own self.other }
+    {
+        let value = self.new_value(x, update);
+        self.with_value(x, value)
+            .with_own(self.own.goes(k))
+            .done(Stays)
     }
-}
 
-// The rule of an action; its body goes on at k.
-pub fn rule_of(action: Action, k: u16, variables: [u32; 32], own: Process, other: Process) -> Done
-    ensures { result ≡ rule_of action k variables own other }
-{
-    match action {
-        Action::Skip => passes(variables, own, other),
-        Action::End => passes(variables, goes(own, 1), other),
-        Action::Updates(x, update) => updated(x, update, k, variables, own, other),
-        Action::Tout(bound) => waited(bound, k, variables, own, other),
-        Action::Reset => restarted(variables, own, other),
-        Action::StartP(_) => stays(variables, goes(own, k), entering(1, 1)),
-        Action::StopP(_) => stays(variables, goes(own, k), stopped()),
-        Action::Start => enters(1, variables, other),
-        Action::Set(j) => enters(j, variables, other),
-        Action::Next => enters(up(own.state), variables, other),
-        Action::Stop => stays(variables, stopped(), other),
-        Action::Err => stays(variables, entering(ranges::ERR_STATE, 0), other),
+    // tout: the timer is started, waited for, or has elapsed.
+    fn waited(self, bound: u16, k: u16) -> Done
+        ensures { result ≡ waited bound k self.variables self.own self.other }
+    {
+        let t = self.own.timer;
+        if t == NONE {
+            return self.with_own(self.own.goes(1).timed(0)).done(Passes);
+        }
+        if t < bound as u32 {
+            return self.with_own(self.own.goes(1)).done(Passes);
+        }
+        if t == bound as u32 {
+            return self.with_own(self.own.goes(k).timed(NONE)).done(Stays);
+        }
+        self.done(NoRule)
+    }
+
+    // reset: the timer, if it runs, is started anew.
+    fn restarted(self) -> Done
+        ensures { result ≡ restarted self.variables self.own self.other }
+    {
+        if self.own.timer == NONE {
+            return self.done(NoRule);
+        }
+        self.with_own(self.own.goes(1).timed(0)).done(Passes)
+    }
+
+    // set, start and next: the process enters state f at its first action, and keeps the turn.
+    fn enters(self, f: u16) -> Done
+        ensures { result ≡ stays self.variables (entering f 1) self.other }
+    {
+        self.with_own(Process::entering(f, 1)).done(Stays)
+    }
+
+    // The rule of an action; its body goes on at k.
+    pub fn rule_of(self, action: Action, k: u16) -> Done
+        ensures { result ≡ rule_of action k self.variables self.own self.other }
+    {
+        let own = self.own;
+        let gone = self.with_own(own.goes(k));
+        match action {
+            Action::Skip => self.done(Passes),
+            Action::End => self.with_own(own.goes(1)).done(Passes),
+            Action::Updates(x, update) => self.updated(x, update, k),
+            Action::Tout(bound) => self.waited(bound, k),
+            Action::Reset => self.restarted(),
+            Action::StartP(_) => gone.with_other(Process::entering(1, 1)).done(Stays),
+            Action::StopP(_) => gone.with_other(Process::stopped()).done(Stays),
+            Action::Start => self.enters(1),
+            Action::Set(j) => self.enters(j),
+            Action::Next => self.enters(up(own.state)),
+            Action::Stop => self.with_own(Process::stopped()).done(Stays),
+            Action::Err => self
+                .with_own(Process::entering(ranges::ERR_STATE, 0))
+                .done(Stays),
+        }
     }
 }
 
@@ -226,8 +198,7 @@ pub fn named_by(action: Action, i: u16) -> u16
     ensures { result ≡ named_by action i }
 {
     match action {
-        Action::StartP(x) => x,
-        Action::StopP(x) => x,
+        Action::StartP(x) | Action::StopP(x) => x,
         _ => i,
     }
 }
@@ -237,7 +208,7 @@ pub fn counter_after(outcome: Outcome, counter: u16) -> u16
     ensures { result ≡ counter_after outcome counter }
 {
     match outcome {
-        Outcome::Passes => up(counter),
+        Passes => up(counter),
         _ => counter,
     }
 }

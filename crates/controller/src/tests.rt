@@ -4,7 +4,8 @@ ghost use Rattle.controller.specs.Tests.{compares, truth};
 
 use crate::NONE;
 
-// Whether a value is equal to the number b, or else whether it exceeds it. Neither is true of an unset one.
+// Whether a value is equal to the number b, or else whether it exceeds it. Neither is true of an unset one. `equal` is
+// a flag, as the promise has it.
 pub fn compares(equal: bool, b: u32, value: u32) -> bool
     ensures { result ≡ compares equal b value }
 {
@@ -17,7 +18,8 @@ pub fn compares(equal: bool, b: u32, value: u32) -> bool
     b < value
 }
 
-// Whether a test of this kind with this b is true, where variable a has this value and process a is in this state.
+// Whether a test of this kind with this b is true, where variable a has this value and process a is in this state. The
+// kind is a number since the promise is on any, also on such as no table has.
 pub fn holds(kind: u16, b: u16, value: u32, state: u16) -> bool
     ensures { result ≡ truth kind b value state }
 {

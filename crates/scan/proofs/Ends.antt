@@ -2,24 +2,17 @@
 -- Assumes nothing.
 use Prim.Native.Nat.{ℕ, suc, ◌+◌, ◌-◌, ◌<◌, ◌≤◌}
 use mathlib.Core.Path.{◌≡◌, refl}
-use mathlib.Core.Logic.{◌⊎◌, ⊎_elim}
 use mathlib.Core.List.{List}
 use native.Mathlib.Omega.{arith}
-use lib.ListN.{length, get_or, set}
+use lib.ListN.{get_or, set}
 use Rattle.lookups.specs.Places.{source_of, reading_of}
 use Rattle.controller.specs.State.{value_at}
 use Rattle.controller.specs.declared.Controller.{Controller}
-use Rattle.controller.proofs.Arrays.{set_outside}
 use Rattle.scan.specs.Scanning.{taken, written}
 
 -- A state with its variables changed, and nothing else.
 abbrev pub with : (List ℕ → List ℕ) → Controller → Controller
 with f c = record { variables = f c.variables; processes = c.processes; counter = c.counter }
-
--- A value stored at a place of the variables where there is such a place, P, and nothing done where there is none, Q.
-pub stored : {P Q : Type 0} (s t : Controller) (at x : ℕ) → length s.variables ≡ 32 → (Q → 32 ≤ at) →
-    (P × (t ≡ with (λ v. set v at x) s)) ⊎ (Q × (t ≡ s)) → t ≡ with (λ v. set v at x) s
-stored s t at x n out = ⊎_elim (λ w. w.1) (λ w. rw (set_outside s.variables at x 32 n (out w.0)) w.1)
 
 -- For any change of so many places from a place on, one place after the other.
 module _ (all : ℕ → ℕ → List ℕ → List ℕ) (one : ℕ → List ℕ → List ℕ)

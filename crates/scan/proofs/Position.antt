@@ -4,10 +4,11 @@ use Prim.Native.Nat.{ℕ, zero, suc, ◌+◌, ◌-◌, ◌*◌, ◌^◌, ◌<◌
 use mathlib.Core.Path.{◌≡◌, refl, sym, ap}
 use mathlib.Core.Bool.{Bool}
 use mathlib.Core.List.{List, [], ◌∷◌}
-use native.Mathlib.Nat.{pow-suc}
+use native.Mathlib.Nat.{pow-suc, add-suc}
 use native.Mathlib.Omega.{arith}
-use native.Mathlib.Numerals.{add-one, add-two, add-three, add-four}
-use lib.ListN.{length, get_or, set}
+use native.Mathlib.Numerals.{add-one}
+use lib.ListN.{length, get_or, set, drop, drop_of_length-le}
+use lib.Seq.{drop-cons}
 use lib.Pow.{pow_mono}
 use Rattle.coding.specs.Room.{over}
 use Rattle.requirement.specs.declared.Phase.{Phase}
@@ -50,8 +51,16 @@ four (a ∷ b ∷ c ∷ []) e = absurd (omega arith)
 four (a ∷ b ∷ c ∷ d ∷ []) e = refl
 four (a ∷ b ∷ c ∷ d ∷ x ∷ l) e = absurd (omega arith)
 
--- five bytes put one after the other
 pub position_over : (atoms d : List ℕ) (at n : ℕ) → length atoms ≡ 4 →
-    set (set (set (set (set d at n) (at + 1) (get_or atoms 0 0)) (at + 2) (get_or atoms 1 0)) (at + 3) (get_or atoms 2 0)) (at + 4) (get_or atoms 3 0) ≡ over d at (n ∷ atoms)
+    over d at (n ∷ get_or atoms 0 0 ∷ get_or atoms 1 0 ∷ get_or atoms 2 0 ∷ get_or atoms 3 0 ∷ []) ≡ over d at (n ∷ atoms)
+position_over atoms d at n e = ap (λ (l : List ℕ). over d at (n ∷ l)) (sym (four atoms e))
+
+-- bytes put one after the other: one more, and none left
+pub byte_over : (d xs : List ℕ) (at k : ℕ) → k < length xs →
+    over (set d (at + k) (get_or xs k 0)) (at + (k + 1)) (drop (k + 1) xs) ≡ over d (at + k) (drop k xs)
 unfolding over
-position_over atoms d at n e = rw (add-one at, add-two at, add-three at, add-four at) (ap (λ (l : List ℕ). over d at (n ∷ l)) (sym (four atoms e)))
+byte_over d xs at k h = rw (drop-cons xs k 0 h, add-one k, add-suc at k) refl
+
+pub all_over : (d xs : List ℕ) (at k : ℕ) → length xs ≤ k → over d at (drop k xs) ≡ d
+unfolding over
+all_over d xs at k h = rw (drop_of_length-le xs h) refl

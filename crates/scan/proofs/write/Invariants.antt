@@ -1,11 +1,8 @@
-use Prim.Native.Nat.{◌-◌, ◌≤◌}
+use Prim.Native.Nat.{◌-◌}
 use mathlib.Core.Path.{◌≡◌}
 use Rattle.scan.specs.Scanning.{written}
 use Rattle.scan.proofs.Ends.{with}
 use Rattle.scan.proofs.write.Given as goal
 
 abbrev pub invariant-loop-k : goal.invariant-loop-k
-invariant-loop-k l = (with (written l.table (l.n - l.k) l.k) l.state ≡ with (written l.table l.n 0) l.initial.state) × (l.k ≤ l.n)
-
-abbrev pub decreases-loop-k : goal.decreases-loop-k
-decreases-loop-k l = l.n - l.k
+invariant-loop-k l = with (written l.table (l.n - l.k) l.k) l.state ≡ with (written l.table l.n 0) l.initial.state

@@ -6,12 +6,11 @@ pub returns : goal.returns
 unfolding act_of
 returns c =
     rw (
-      c.with_rest-state.ensures,
-      c.with_process-2.ensures,
+      c.counter_after-counter.ensures,
+      c.with_process-state.ensures,
       c.with_process.ensures,
-      c.counter_after-new_counter.ensures,
       c.rule_of-done.ensures,
-      c.process-other.ensures,
-      c.process-own.ensures,
+      c.process-2.ensures,
+      c.process.ensures,
       c.named_by-named.ensures,
     ) refl

@@ -1,12 +1,22 @@
 use mathlib.Core.Path.{refl}
 use Rattle.controller.specs.Seen.{same_seen}
+use Rattle.controller.proofs.Equal.{eq_is_same_values}
 use Rattle.controller.proofs.Controller.seen_as.Goals as goal
 
-pub returns-then-not-same : goal.returns-then-not-same
+pub returns-then-all_same : goal.returns-then-all_same
 unfolding same_seen
-returns-then-not-same c = rw (← c.values-same.ensures, c.if-not-same.true) refl
+returns-then-all_same c =
+    rw (
+      ← eq_is_same_values c.args.self.variables c.args.other.variables,
+      ← c.all_same.ensures,
+      c.if-all_same.true,
+      c.all_same-then-all_same.ensures,
+      c.states.ensures,
+      c.states-then-all_same.ensures,
+    )
+    (eq_is_same_values _ _)
 
-pub returns : goal.returns
+pub returns-else-all_same : goal.returns-else-all_same
 unfolding same_seen
-returns c =
-    rw (← c.values-same.ensures, c.if-not-same.false, ← c.states.ensures) refl
+returns-else-all_same c =
+    rw (← eq_is_same_values c.args.self.variables c.args.other.variables, ← c.all_same.ensures, c.if-all_same.false) refl
