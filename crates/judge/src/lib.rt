@@ -48,8 +48,8 @@ fn judge_rows(
     let mut marks = [0u8; MARKS];
     rows::fill_marks(trace, &mut marks);
     let marked = MarkedTrace {
-        trace: trace,
-        start: start,
+        trace,
+        start,
         marks: &marks,
     };
     tree::judge_node(kind, code, 0, depth, &marked, work);
