@@ -8,7 +8,6 @@ use native.Mathlib.Omega.{arith}
 use lib.ListN.{length, drop}
 use borrow.Rule.Slice.PartMut.{mid_of, put_mid, mid_len}
 use Rattle.requirement.specs.declared.Phase.{Phase}
-use Rattle.requirement.specs.declared.Phase.TheVariants.{Input, Exe, Output}
 use Rattle.meaning.specs.Rows.{rowed}
 use Rattle.bits.specs.Bits.{bit_at}
 use Rattle.bits.specs.Rows.{after_of}
@@ -38,11 +37,6 @@ module _ (t : List ℕ) (phase : Phase) (w : List ℕ) (p : ℕ) where
   implied = ap not (and_comm (not (bit_at w p)) (is_at t phase p))
 
 -- ---- a phase's row, lent from its place in the marks on
-
-pub place_most : (phase : Phase) → mark_place phase ≤ 1024
-place_most Input = omega arith
-place_most Exe = omega arith
-place_most Output = omega arith
 
 pub mark_is : {t m : List ℕ} → Marked t m → (phase : Phase) (from k : ℕ) → from ≡ mark_place phase → positions t ≤ 8 * k → Same (positions t) (bit_at (mid_of from k m)) (is_at t phase)
 mark_is {t} {m} h phase from k e a p l = taken_is k (drop from m) p (omega arith) ∙ rw e (h.rows phase p l)

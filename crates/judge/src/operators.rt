@@ -215,6 +215,7 @@ impl<'a> MarkedTrace<'a> {
         self.reach(first, work);
     }
 
+    // X, at the next position, or at the next one of a phase.
     fn next_in(&self, family: Family, work: &mut [u8])
         requires { HasRows 2 self.now.trace.now work.old }
         ensures { IsRow self.now.trace.now work.new

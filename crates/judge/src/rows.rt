@@ -76,7 +76,7 @@ fn step_word(work: &mut [u8], row: usize, i: usize, behind: u64) -> u64
     carry
 }
 
-// One step down of the walk, of 8 positions.
+// One step down of the walk, of 8 positions. The byte is taken by its index, which is plainer than a word of one byte.
 fn step_byte(work: &mut [u8], row: usize, i: usize, behind: u64) -> u64
     requires { (i < row) × (row ≤ 512) × (row + row ≤ length work.old) × (behind < 2) }
     ensures row_is { work.new
