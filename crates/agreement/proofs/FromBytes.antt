@@ -12,8 +12,9 @@ use lib.ListN.{length, take}
 use contract.Lifetimes.{Lfts}
 use borrow.Fn.Kinds.{Dens, ended_of}
 use denote.Triple.Clauses.{AtExit}
+use Rattle.run.specs.Running.{Ran, closes_at}
+use Rattle.std.specs.Prelude.{Ok, Err}
 use Rattle.coding.specs.Code.{code_at}
-use Rattle.coding.specs.declared.Answer.TheVariants.{Count}
 use Rattle.requirement.specs.Requirement.{Requirement}
 use Rattle.requirement.specs.Reading.{whole, parsed}
 use Rattle.requirement.specs.declared.Kind.{Kind}
@@ -24,14 +25,10 @@ use Rattle.lasso.specs.Bytes.{trace_of}
 use Rattle.lasso.proofs.WellFormed.{accepted_is_well_formed}
 use Rattle.translate.specs.Writing.{translated}
 use Rattle.translate.proofs.Agreement.{translation_is_read, same_verdicts}
-use Rattle.judge.specs.Judging.{go, work_asked, list_asked, checks_of, Judges}
-use Rattle.judge.specs.declared.Judged.{Judged}
-use Rattle.judge.specs.declared.Judged.TheVariants.{Verdict, Refused}
+use Rattle.judge.specs.Judging.{go, work_asked, list_asked, checks_of, Judges, Judgement, holds_with}
 use Rattle.judge.proofs.judge.Kinds as judge
 use Rattle.judge.proofs.judge.Reads as judge_reads
 use Rattle.run.specs.Trace.{trace_bytes, numbers_in, run_of}
-use Rattle.run.specs.declared.Ran.{Ran}
-use Rattle.run.specs.declared.Ran.TheVariants.{Closed}
 use Rattle.run.proofs.run.Kinds as run
 use Rattle.run.proofs.run.Reads as run_reads
 use Rattle.endless.specs.Unrolled.{rules_run}
@@ -44,29 +41,29 @@ use Rattle.agreement.specs.FromBytes.{handed_on, RightlyJudged}
 use Rattle.agreement.proofs.Judging.{judged_when}
 
 -- An accepted judging of the run's trace is right.
-module _ (room n start : ℕ) (table inputs : List ℕ) (e : run_of room table inputs ≡ Closed n start) (f : Requirement) (work list work' list' : List ℕ) where
-  right_when : (answer : Judged) →
+module _ (room n start : ℕ) (table inputs : List ℕ) (e : run_of room table inputs ≡ closes_at n start) (f : Requirement) (work list work' list' : List ℕ) where
+  right_when : (answer : Judgement) →
       Judges (go f) (trace_of (trace_bytes (numbers_in table) (numbers_in inputs) n) start) work list work' list' answer →
       RightlyJudged table inputs f n work list work' list' answer
-  right_when (Verdict holds count) a = record {
-    holds = holds;
+  right_when (Ok verdict) a = record {
+    verdict.holds = verdict.holds;
     found = a.found;
-    right = by_the_rules room n start table inputs e f holds a.found a.verdict a.findings;
-    answered = ap (Verdict holds) a.counted;
+    right = by_the_rules room n start table inputs e f verdict.holds a.found a.verdict a.findings;
+    answered = ap (holds_with verdict.holds) a.counted;
     listed = a.listed;
     cleared = a.cleared;
   }
-  right_when (Refused cause place) a = absurd a
+  right_when (Err why) a = absurd a
 
 -- The bytes handed in, and the buffers lent to the run (trace) and to judging (work, list).
 module _ (kind : Kind) (table inputs code trace work list : List ℕ) (n start : ℕ) (f : Requirement) where
   -- The table, the inputs and the run are accepted; the requirement is accepted, and the rooms that document 01 asks
   -- for are there. Then whatever judging promises to answer and to leave in its buffers is right by the rules: a
   -- verdict is given, and it is the true one; the list holds the true findings.
-  pub from_bytes : run_of (length trace) table inputs ≡ Closed n start → parsed kind (code_at code 0) ≡ whole f →
+  pub from_bytes : run_of (length trace) table inputs ≡ closes_at n start → parsed kind (code_at code 0) ≡ whole f →
       work_asked (handed_on table inputs trace n start) f ≤ length work →
       list_asked (handed_on table inputs trace n start) ≤ length list →
-      (work' list' : List ℕ) (answer : Judged) →
+      (work' list' : List ℕ) (answer : Judgement) →
       Judges (checks_of kind code (handed_on table inputs trace n start) start (length work) (length list)) (trace_of (handed_on table inputs trace n start) start)
       work list work' list' answer →
       RightlyJudged table inputs f n work list work' list' answer
@@ -81,8 +78,8 @@ module _ (kind : Kind) (table inputs code trace work list : List ℕ) (n start :
 -- in its buffer, 5 bytes a position, and that loop start.
 pub calls_right : (κs : Lfts 3) (a : Dens κs run.ps) (ran : Ran) (e : AtExit (ended_of 3 run.ps run.r) κs) →
     run_reads.Post κs a ran e →
-    (n start : ℕ) → ran ≡ Closed n start →
-    (λs : Lfts 4) (b : Dens λs judge.ps) (answer : Judged) (d : AtExit (ended_of 4 judge.ps judge.r) λs) →
+    (n start : ℕ) → ran ≡ closes_at n start →
+    (λs : Lfts 4) (b : Dens λs judge.ps) (answer : Judgement) (d : AtExit (ended_of 4 judge.ps judge.r) λs) →
     judge_reads.Post λs b answer d →
     (f : Requirement) → parsed b.0 (code_at b.1.0.now 0) ≡ whole f →
     b.1.1.0.now ≡ take (n * 5) e.1.1.0.now → b.1.1.1.0 ≡ start →
@@ -96,7 +93,7 @@ calls_right κs a ran e p n start closed λs b answer d q f read bytes same room
 
 -- What translating a code wrote is read as the translation of the requirement that the code is.
 translation_again : (code out : List ℕ) (m : ℕ) (f : Requirement) → parsed Untranslated (code_at code 0) ≡ whole f →
-    translated code out ≡ Count m →
+    translated code out ≡ Ok m →
     parsed Translated (code_at (first_written code out m) 0) ≡ whole (translate f)
 translation_again code out m f read written =
     let (g, first, again) = translation_is_read code out m written in
@@ -106,7 +103,7 @@ translation_again code out m f read written =
 
 -- "The translation .. agrees with the requirement at every position": so a requirement that is judged in its
 -- translation is rightly judged.
-module _ (table inputs trace : List ℕ) (n start : ℕ) (e : run_of (length trace) table inputs ≡ Closed n start) (f : Requirement) where
+module _ (table inputs trace : List ℕ) (n start : ℕ) (e : run_of (length trace) table inputs ≡ closes_at n start) (f : Requirement) where
   translated_means : (m : ℕ) →
       Holds (rules_run (numbers_in table) (numbers_in inputs)) (translate f) m ↔ Holds (rules_run (numbers_in table) (numbers_in inputs)) f m
   translated_means m =
@@ -127,10 +124,10 @@ module _ (table inputs trace : List ℕ) (n start : ℕ) (e : run_of (length tra
   }
 
   pub translation_right : (code out work list : List ℕ) (m : ℕ) → parsed Untranslated (code_at code 0) ≡ whole f →
-      translated code out ≡ Count m →
+      translated code out ≡ Ok m →
       work_asked (handed_on table inputs trace n start) (translate f) ≤ length work →
       list_asked (handed_on table inputs trace n start) ≤ length list →
-      (work' list' : List ℕ) (answer : Judged) →
+      (work' list' : List ℕ) (answer : Judgement) →
       Judges (checks_of Translated (first_written code out m) (handed_on table inputs trace n start) start (length work) (length list))
       (trace_of (handed_on table inputs trace n start) start) work list work' list' answer →
       RightlyJudged table inputs f n work list work' list' answer

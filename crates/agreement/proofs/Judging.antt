@@ -10,10 +10,10 @@ use mathlib.Core.List.{List}
 use lib.ListN.{length, replicate}
 use lib.Dec.{ltb}
 use borrow.Author.Tests.{le-ltb}
+use Rattle.std.specs.Prelude.{Ok}
 use Rattle.coding.specs.Number.{pick}
 use Rattle.coding.specs.Code.{code_at, bytes_of_all}
 use Rattle.coding.specs.declared.Cause.TheVariants.{ShortBuffer}
-use Rattle.coding.specs.declared.Answer.TheVariants.{Count}
 use Rattle.requirement.specs.Requirement.{Requirement}
 use Rattle.requirement.specs.Tags.{code_of}
 use Rattle.requirement.specs.Limits.{Fits}
@@ -28,15 +28,14 @@ use Rattle.lasso.specs.Checking.{length_ok, check_trace}
 use Rattle.lasso.proofs.WellFormed.{accepted_is_well_formed, well_formed_is_accepted}
 use Rattle.translate.specs.Writing.{translated}
 use Rattle.translate.proofs.Agreement.{translation_is_read, same_verdicts, same_findings}
-use Rattle.judge.specs.Judging.{stop, go, work_asked, list_asked, checks_of, Accepted, Judges}
-use Rattle.judge.specs.declared.Judged.TheVariants.{Verdict}
+use Rattle.judge.specs.Judging.{stop, go, work_asked, list_asked, checks_of, Accepted, Judges, holds_with}
 use Rattle.judge.proofs.Unique.{one_judging}
 use Rattle.agreement.specs.Alike.{Alike, first_written}
 
 -- ---- Demand 3: "For every requirement within the limits, every well-formed lasso trace and the room document 01 asks for": these are judged.
 -- "A checker that refuses all falls by demand 2, since the table says exactly when to refuse."
 pub judged_when : (kind : Kind) (s trace : List ℕ) (start work list n : ℕ) (f : Requirement) → parsed kind (code_at s 0) ≡ whole f →
-    check_trace trace start ≡ Count n → work_asked trace f ≤ work → list_asked trace ≤ list → checks_of kind s trace start work list ≡ go f
+    check_trace trace start ≡ Ok n → work_asked trace f ≤ work → list_asked trace ≤ list → checks_of kind s trace start work list ≡ go f
 unfolding checks_of
 judged_when kind s trace start work list n f read well room space = rw (read, well, le-ltb _ _ room, le-ltb _ _ space)
 
@@ -67,14 +66,14 @@ module _ {t : Trace} (well : WellFormed t) (f : Requirement) {list work₂ after
   pub alike : {work₁ after₁ list₁ : List ℕ} {h₁ : Bool} {c₁ : ℕ} → Accepted t f work₁ list after₁ list₁ h₁ c₁ → Accepted t (translate f) work₂ list after₂ list₂ h₂ c₂ →
       Alike h₁ h₂ c₁ c₂ list₁ list₂
   alike {work₁} {after₁} {list₁} {h₁} {c₁} a b =
-      let u = one_judging t work₁ list after₁ list₁ (replicate (length work₁) 0) list₂ (go f) (Verdict h₁ c₁) (Verdict h₂ c₂) a (as_untranslated work₁ b) in
+      let u = one_judging t work₁ list after₁ list₁ (replicate (length work₁) 0) list₂ (go f) (holds_with h₁ c₁) (holds_with h₂ c₂) a (as_untranslated work₁ b) in
       let e = u.0 in
       record { verdict = cc; count = cc; list = u.2 }
 
 -- an accepted judging of a code that was read is one of the requirement that was read
 judged_is : (kind : Kind) (s trace : List ℕ) (start room space n : ℕ) (f : Requirement) (work list work' list' : List ℕ) (h : Bool) (c : ℕ) →
-    parsed kind (code_at s 0) ≡ whole f → check_trace trace start ≡ Count n →
-    Judges (checks_of kind s trace start room space) (trace_of trace start) work list work' list' (Verdict h c) →
+    parsed kind (code_at s 0) ≡ whole f → check_trace trace start ≡ Ok n →
+    Judges (checks_of kind s trace start room space) (trace_of trace start) work list work' list' (holds_with h c) →
     Accepted (trace_of trace start) f work list work' list' h c
 unfolding checks_of
 judged_is kind s trace start room space n f work list work' list' h c read well j =
@@ -82,7 +81,7 @@ judged_is kind s trace start room space n f work list work' list' h c read well 
   where
     by_room_lem : (a b : Bool) →
         Judges (pick a (stop ShortBuffer (work_asked trace f)) (pick b (stop ShortBuffer (list_asked trace)) (go f)))
-        (trace_of trace start) work list work' list' (Verdict h c) →
+        (trace_of trace start) work list work' list' (holds_with h c) →
         Accepted (trace_of trace start) f work list work' list' h c
     by_room_lem true b (e, _, _) = let z : ◌≡◌ {A = ℕ} 0 1 = cc in absurd (omega arith)
     by_room_lem false true (e, _, _) = let z : ◌≡◌ {A = ℕ} 0 1 = cc in absurd (omega arith)
@@ -90,10 +89,10 @@ judged_is kind s trace start room space n f work list work' list' h c read well 
 
 -- The same of bytes: a code, and what translating it wrote, judged on the same trace, in whatever work, with the same list before. What was written is read
 -- as a translated requirement: "A translation that copies its input falls by demand 3, as e, i and o tags are not plain."
-pub translation_judged_alike : (s out : List ℕ) (n : ℕ) → translated s out ≡ Count n → (trace : List ℕ) (start m : ℕ) → check_trace trace start ≡ Count m →
+pub translation_judged_alike : (s out : List ℕ) (n : ℕ) → translated s out ≡ Ok n → (trace : List ℕ) (start m : ℕ) → check_trace trace start ≡ Ok m →
     (room₁ room₂ space₁ space₂ : ℕ) (work₁ work₂ after₁ after₂ list list₁ list₂ : List ℕ) (h₁ h₂ : Bool) (c₁ c₂ : ℕ) →
-    Judges (checks_of Untranslated s trace start room₁ space₁) (trace_of trace start) work₁ list after₁ list₁ (Verdict h₁ c₁) →
-    Judges (checks_of Translated (first_written s out n) trace start room₂ space₂) (trace_of trace start) work₂ list after₂ list₂ (Verdict h₂ c₂) →
+    Judges (checks_of Untranslated s trace start room₁ space₁) (trace_of trace start) work₁ list after₁ list₁ (holds_with h₁ c₁) →
+    Judges (checks_of Translated (first_written s out n) trace start room₂ space₂) (trace_of trace start) work₂ list after₂ list₂ (holds_with h₂ c₂) →
     Alike h₁ h₂ c₁ c₂ list₁ list₂
 translation_judged_alike s out n e trace start m well room₁ room₂ space₁ space₂ work₁ work₂ after₁ after₂ list list₁ list₂ h₁ h₂ c₁ c₂ a b =
     let (f, read, again) = translation_is_read s out n e in

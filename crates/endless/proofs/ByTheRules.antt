@@ -6,6 +6,7 @@ use mathlib.Core.Path.{◌≡◌, sym, ap, ◌∙◌}
 use mathlib.Core.Logic.{◌↔◌}
 use mathlib.Core.Bool.{Bool, true}
 use mathlib.Core.List.{List}
+use Rattle.run.specs.Running.{closes_at}
 use Rattle.requirement.specs.declared.Phase.TheVariants.{Input}
 use Rattle.requirement.specs.Requirement.{Requirement}
 use Rattle.meaning.specs.Meaning.{Run, Holds}
@@ -14,7 +15,6 @@ use Rattle.meaning.specs.Findings.{Findings}
 use Rattle.meaning.proofs.Judged.{stored}
 use Rattle.lasso.specs.Bytes.{trace_of}
 use Rattle.run.specs.Trace.{trace_bytes, numbers_in, run_of}
-use Rattle.run.specs.declared.Ran.TheVariants.{Closed}
 use Rattle.endless.specs.Unrolled.{rules_run}
 use Rattle.endless.specs.ByTheRules.{ByTheRules}
 use Rattle.endless.proofs.Ended.{Ended, ended}
@@ -48,7 +48,7 @@ module _ {T I : List ℕ} {n start : ℕ} (h : Ended T I n start) (f : Requireme
   }
 
 -- From the bytes of a table and of an inputs record.
-pub by_the_rules : (room n start : ℕ) (table inputs : List ℕ) → run_of room table inputs ≡ Closed n start →
+pub by_the_rules : (room n start : ℕ) (table inputs : List ℕ) → run_of room table inputs ≡ closes_at n start →
     (f : Requirement) (holds : Bool) (found : List ℕ) →
     let T = numbers_in table in
     let I = numbers_in inputs in

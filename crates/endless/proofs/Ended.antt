@@ -8,20 +8,19 @@ use mathlib.Core.Bool.{Bool, true, false}
 use mathlib.Core.List.{List}
 use lib.ListN.{get_or}
 use lib.Dec.{ltb}
-use Rattle.std.specs.Prelude.{None}
+use Rattle.run.specs.declared.Stop.TheVariants.{Halted}
+use Rattle.coding.specs.Refusal.{Answer}
+use Rattle.std.specs.Prelude.{None, Ok, Err}
 use Rattle.coding.specs.Code.{code_at}
 use Rattle.coding.specs.declared.Cause.{Cause}
-use Rattle.coding.specs.declared.Answer.{Answer}
-use Rattle.coding.specs.declared.Answer.TheVariants.{Count, Refused as NotRead}
 use Rattle.ranges.specs.Limits.{most_processes}
 use Rattle.lookups.specs.Places.{tests_of, processes_of, scans_of, return_of}
 use Rattle.table.specs.Table.{table_grammar, inputs_grammar}
 use Rattle.controller.specs.Same.{same_state}
 use Rattle.run.specs.Limits.{last_state, trace_room}
-use Rattle.run.specs.Running.{reached, to_return, to_end, closing, ran_of}
+use Rattle.run.specs.Running.{reached, to_return, to_end, closing, ran_of, closes_at, run_refused}
 use Rattle.run.specs.Trace.{numbers_in, by_inputs, by_table, run_of}
 use Rattle.run.specs.declared.Reached.{Reached}
-use Rattle.run.specs.declared.Ran.TheVariants.{Closed, Halted, Refused}
 use Rattle.controller.proofs.Equal.{same_is_equal}
 use Rattle.endless.specs.Recorded.{state_at}
 use Rattle.endless.proofs.Accepted.{some_process, few_tests, returns_below}
@@ -37,14 +36,14 @@ pub record Ended (T I : List ℕ) (n start : ℕ) : Type 0 where
   pub most : n ≤ 4096
   pub same : (state_at T I n).state ≡ (state_at T I start).state
 
-not_halted : {cause : Cause} {s p n start : ℕ} → Halted cause s p ≡ Closed n start → ⊥
+not_halted : {cause : Cause} {s p n start : ℕ} → Err (Halted cause s p) ≡ closes_at n start → ⊥
 not_halted e = let z : ◌≡◌ {A = ℕ} 0 1 = cc in omega arith
 
-pub not_refused : {cause : Cause} {p n start : ℕ} → Refused cause p ≡ Closed n start → ⊥
+pub not_refused : {cause : Cause} {p n start : ℕ} → run_refused cause p ≡ closes_at n start → ⊥
 not_refused e = let z : ◌≡◌ {A = ℕ} 0 1 = cc in omega arith
 
 -- ---- the scans
-module _ (T I : List ℕ) (n start : ℕ) (e : ran_of T I ≡ Closed n start) where
+module _ (T I : List ℕ) (n start : ℕ) (e : ran_of T I ≡ closes_at n start) where
   back_on : (to_return T I).stopped ≡ None
   unfolding ran_of
   back_on = ⊎_elim (λ g. g) (λ (cause, g). absurd (not_halted (rw (g, ran_of) at e))) (on_or_stopped (to_return T I).stopped)
@@ -53,7 +52,7 @@ module _ (T I : List ℕ) (n start : ℕ) (e : ran_of T I ≡ Closed n start) wh
   unfolding ran_of
   last_on = ⊎_elim (λ g. g) (λ (cause, g). absurd (not_halted (rw (back_on, g, ran_of) at e))) (on_or_stopped (to_end T I).stopped)
 
-  closes : closing (scans_of I) (to_return T I) (to_end T I) ≡ Closed n start
+  closes : closing (scans_of I) (to_return T I) (to_end T I) ≡ closes_at n start
   unfolding ran_of
   closes = rw (back_on, last_on, ran_of) at e
 
@@ -63,14 +62,14 @@ record Met (n start : ℕ) (back last : Reached) : Type 0 where
   n_is : last.number ≡ n
   start_is : back.number ≡ start
 
-met : (q n start : ℕ) (back last : Reached) → closing q back last ≡ Closed n start → Met n start back last
+met : (q n start : ℕ) (back last : Reached) → closing q back last ≡ closes_at n start → Met n start back last
 unfolding closing
 met q n start back last e = go (same_state last.machine.state back.machine.state) refl
   where
     go : (b : Bool) → same_state last.machine.state back.machine.state ≡ b → Met n start back last
     go false f = absurd (not_halted (rw f at e))
     go true f =
-        let g : Closed last.number back.number ≡ Closed n start = rw f at e in
+        let g : closes_at last.number back.number ≡ closes_at n start = rw f at e in
         record { same = same_is_equal last.machine.state back.machine.state f; n_is = cc; start_is = cc }
 
 module _ (T I : List ℕ) where
@@ -101,7 +100,7 @@ module _ (T I : List ℕ) where
     same = rw (l.machine, b.machine, m.n_is, m.start_is) at m.same;
   }
 
-  ended_so : (n start : ℕ) → 1 ≤ processes_of T → tests_of T ≤ 32 → return_of I < scans_of I → ran_of T I ≡ Closed n start → Ended T I n start
+  ended_so : (n start : ℕ) → 1 ≤ processes_of T → tests_of T ≤ 32 → return_of I < scans_of I → ran_of T I ≡ closes_at n start → Ended T I n start
   ended_so n start p t r e =
       let c = came_back (back_on T I n start e) in
       ended_with n start (to_return T I) (to_end T I) p t r c (came_end c (last_on T I n start e)) (met (scans_of I) n start _ _ (closes T I n start e))
@@ -109,16 +108,16 @@ module _ (T I : List ℕ) where
 -- ---- the grammars
 module _ (n start : ℕ) where
   by_inputs_lem : (T : List ℕ) (inputs : List ℕ) → 1 ≤ processes_of T → tests_of T ≤ 32 → (a : Answer) → inputs_grammar (get_or T 0 0) (code_at inputs 0) ≡ a →
-      by_inputs T (numbers_in inputs) a ≡ Closed n start → Ended T (numbers_in inputs) n start
-  by_inputs_lem T inputs p t (Count k) f e = ended_so T (numbers_in inputs) n start p t (returns_below (get_or T 0 0) k (code_at inputs 0) f) e
-  by_inputs_lem T inputs p t (NotRead cause place) f e = absurd (not_refused e)
+      by_inputs T (numbers_in inputs) a ≡ closes_at n start → Ended T (numbers_in inputs) n start
+  by_inputs_lem T inputs p t (Ok k) f e = ended_so T (numbers_in inputs) n start p t (returns_below (get_or T 0 0) k (code_at inputs 0) f) e
+  by_inputs_lem T inputs p t (Err why) f e = absurd (not_refused e)
 
   by_table_lem : (table inputs : List ℕ) (a : Answer) → table_grammar most_processes (code_at table 0) ≡ a →
-      by_table (numbers_in table) inputs a ≡ Closed n start → Ended (numbers_in table) (numbers_in inputs) n start
-  by_table_lem table inputs (Count k) f e = by_inputs_lem (numbers_in table) inputs (some_process (code_at table 0) k f) (few_tests (code_at table 0) k f) _ refl e
-  by_table_lem table inputs (NotRead cause place) f e = absurd (not_refused e)
+      by_table (numbers_in table) inputs a ≡ closes_at n start → Ended (numbers_in table) (numbers_in inputs) n start
+  by_table_lem table inputs (Ok k) f e = by_inputs_lem (numbers_in table) inputs (some_process (code_at table 0) k f) (few_tests (code_at table 0) k f) _ refl e
+  by_table_lem table inputs (Err why) f e = absurd (not_refused e)
 
-pub ended : (room n start : ℕ) (table inputs : List ℕ) → run_of room table inputs ≡ Closed n start → Ended (numbers_in table) (numbers_in inputs) n start
+pub ended : (room n start : ℕ) (table inputs : List ℕ) → run_of room table inputs ≡ closes_at n start → Ended (numbers_in table) (numbers_in inputs) n start
 unfolding run_of
 ended room n start table inputs e = go (ltb room trace_room) refl
   where

@@ -9,7 +9,7 @@ use mathlib.Core.Bool.{true}
 use mathlib.Core.List.{List}
 use lib.ListN.{length}
 use borrow.Author.Tests.{lt-ltb, le-ltb, eq-eqb, ne_eqb}
-use Rattle.coding.specs.declared.Answer.TheVariants.{Count}
+use Rattle.std.specs.Prelude.{Ok}
 use Rattle.requirement.specs.declared.Phase.TheVariants.{Output}
 use Rattle.meaning.specs.Trace.{Trace, after, Follows, WellFormed}
 use Rattle.lasso.specs.Bytes.{positions, phase_from, phase_byte, trace_of}
@@ -63,11 +63,11 @@ module _ {T I : List ℕ} {n start : ℕ} (h : Ended T I n start) where
     written = (start, omega arith, lasso_inside, phase_is start (start_below h) ∙ (start_ends h).0);
   }
 
-  pub is_lasso : check_trace (trace_bytes T I n) start ≡ Count n
+  pub is_lasso : check_trace (trace_bytes T I n) start ≡ Ok n
   is_lasso =
       let below = start_below h in
       let len = positions_is T I n in
       let ok : length_ok (length (trace_bytes T I n)) ≡ true = rw (trace_size T I n) (length_fine n (omega arith) h.most) in
       let small : (p : ℕ) → p < positions (trace_bytes T I n) → phase_byte (trace_bytes T I n) p ≤ 2 =
       λ p l. rw (trace_phase T I n p (rw len at l)) (phase_small (state_at T I p).phase) in
-      well_formed_is_accepted (trace_bytes T I n) start ok small formed ∙ ap Count len
+      well_formed_is_accepted (trace_bytes T I n) start ok small formed ∙ ap Ok len

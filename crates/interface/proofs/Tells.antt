@@ -3,12 +3,11 @@
 use mathlib.Core.Path.{◌≡◌, ◌∙◌, ap}
 use Prim.Native.Nat.{ℕ}
 use mathlib.Core.List.{List}
-use Rattle.coding.specs.Refusal.{answer_told}
+use Rattle.run.specs.Running.{Ran}
+use Rattle.coding.specs.Refusal.{answer_told, Answer}
 use Rattle.coding.specs.Room.{stored}
 use Rattle.coding.specs.declared.Told.{Told}
-use Rattle.coding.specs.declared.Answer.{Answer}
 use Rattle.run.specs.Trace.{left_in, ran_told}
-use Rattle.run.specs.declared.Ran.{Ran}
 
 -- r is what the entry answered, and a what its definition says
 pub tells : (told : Told) (r a : Answer) (d d' xs : List ℕ) → told ≡ answer_told r → (r ≡ a) × (d' ≡ stored r d xs) → (told ≡ answer_told a) × (d' ≡ stored a d xs)

@@ -7,16 +7,15 @@ use mathlib.Core.Bool.{Bool, true, false}
 use mathlib.Core.List.{List}
 use lib.Dec.{ltb}
 use borrow.Author.Tests.{ltb-false, le-ltb}
+use Rattle.coding.specs.Refusal.{Answer}
+use Rattle.std.specs.Prelude.{Ok, Err}
 use Rattle.coding.specs.Code.{code_at}
-use Rattle.coding.specs.declared.Answer.{Answer}
-use Rattle.coding.specs.declared.Answer.TheVariants.{Count, Refused as NotRead}
 use Rattle.ranges.specs.Limits.{most_processes}
 use Rattle.lookups.specs.Places.{inputs_of}
 use Rattle.table.specs.Table.{table_grammar, inputs_grammar}
 use Rattle.run.specs.Limits.{trace_room}
-use Rattle.run.specs.Running.{ran_of}
+use Rattle.run.specs.Running.{ran_of, Ran}
 use Rattle.run.specs.Trace.{numbers_in, by_inputs, by_table, run_of}
-use Rattle.run.specs.declared.Ran.{Ran}
 use Rattle.endless.proofs.Accepted.{returns_below}
 use Rattle.invariants.specs.Accepting.{ReadyToRun, ScansBegun}
 use Rattle.invariants.specs.Refusals.{Ends}
@@ -27,22 +26,22 @@ module _ (room : ℕ) (table inputs : List ℕ) where
   unfolding run_of
   accepted_runs a = rw (le-ltb room trace_room a.buffer, a.table_read, a.inputs_read) refl
 
-  by_inputs_lem : (roomy : ltb room trace_room ≡ false) (n : ℕ) → table_grammar most_processes (code_at table 0) ≡ Count n →
+  by_inputs_lem : (roomy : ltb room trace_room ≡ false) (n : ℕ) → table_grammar most_processes (code_at table 0) ≡ Ok n →
       (y : Answer) → inputs_grammar (inputs_of (numbers_in table)) (code_at inputs 0) ≡ y →
       ScansBegun (by_inputs (numbers_in table) (numbers_in inputs) y) → ReadyToRun room table inputs
-  by_inputs_lem roomy n f (Count k) g h = record {
+  by_inputs_lem roomy n f (Ok k) g h = record {
     buffer = ltb-false room trace_room roomy;
     table_numbers = n;
     table_read = f;
     inputs_numbers = k;
     inputs_read = g;
   }
-  by_inputs_lem roomy n f (NotRead cause place) g h = absurd h
+  by_inputs_lem roomy n f (Err why) g h = absurd h
 
   by_table_lem : (roomy : ltb room trace_room ≡ false) (x : Answer) → table_grammar most_processes (code_at table 0) ≡ x →
       ScansBegun (by_table (numbers_in table) inputs x) → ReadyToRun room table inputs
-  by_table_lem roomy (Count n) f h = by_inputs_lem roomy n f (inputs_grammar (inputs_of (numbers_in table)) (code_at inputs 0)) refl h
-  by_table_lem roomy (NotRead cause place) f h = absurd h
+  by_table_lem roomy (Ok n) f h = by_inputs_lem roomy n f (inputs_grammar (inputs_of (numbers_in table)) (code_at inputs 0)) refl h
+  by_table_lem roomy (Err why) f h = absurd h
 
   begun_accepted : ScansBegun (run_of room table inputs) → ReadyToRun room table inputs
   unfolding run_of

@@ -7,10 +7,9 @@ use native.Mathlib.Decide.{dec_lt}
 use mathlib.Core.Path.{◌≡◌, refl, ap, ◌∙◌}
 use mathlib.Core.List.{List}
 use lib.ListN.{length}
-use Rattle.std.specs.Prelude.{Option, None, Some}
+use Rattle.std.specs.Prelude.{Option, None, Some, Ok}
 use Rattle.coding.specs.Code.{Code, code_at, values}
 use Rattle.coding.specs.declared.Cause.{Cause}
-use Rattle.coding.specs.declared.Answer.TheVariants.{Count}
 use Rattle.ranges.specs.Limits.{most_processes}
 use Rattle.requirement.specs.declared.Phase.{Phase}
 use Rattle.requirement.specs.declared.Phase.TheVariants.{Input, Exe, Output}
@@ -18,9 +17,8 @@ use Rattle.table.specs.Table.{table_grammar}
 use Rattle.lookups.specs.Places.{processes_of}
 use Rattle.lookups.proofs.Structured.{joined}
 use Rattle.structure.proofs.Whole.{accepted_is_allowed}
-use Rattle.run.specs.Running.{recorded_move}
+use Rattle.run.specs.Running.{recorded_move, closes_at}
 use Rattle.run.specs.Trace.{numbers_in, run_of}
-use Rattle.run.specs.declared.Ran.TheVariants.{Closed}
 use Rattle.endless.specs.Recorded.{state_at, MovesOn}
 use Rattle.endless.specs.Unrolled.{endless_state}
 use Rattle.endless.proofs.Closed.{goes_on}
@@ -115,7 +113,7 @@ module _ (T I : List ℕ) where
         next_scan k i j b c
 
 -- "processes (1 to 8)"
-process_count : (c : Code) (n : ℕ) → table_grammar most_processes c ≡ Count n →
+process_count : (c : Code) (n : ℕ) → table_grammar most_processes c ≡ Ok n →
     (1 ≤ processes_of (values c)) × (processes_of (values c) < 65535)
 process_count c n e =
     let (t, same, ok, _, _) = accepted_is_allowed most_processes (omega arith) c n e in
@@ -124,16 +122,16 @@ process_count c n e =
     (omega arith, omega arith)
 
 -- So in every run of a table that the reader accepts, whether it closes or is stopped: each scan that is done.
-pub accepted_scans : (c : Code) (n : ℕ) → table_grammar most_processes c ≡ Count n → (I : List ℕ) (l : ℕ) →
+pub accepted_scans : (c : Code) (n : ℕ) → table_grammar most_processes c ≡ Ok n → (I : List ℕ) (l : ℕ) →
     Arises (values c) I l → (k : ℕ) → k < (state_at (values c) I l).scan → Scanned (values c) I k
 accepted_scans c n e I l a = let (some, few) = process_count c n e in each_scan (values c) I some few l a
 
 -- And in the endless run of a run that closes, from every state that is the start or just after a write.
-pub endless_scans : (room n start : ℕ) (table inputs : List ℕ) → run_of room table inputs ≡ Closed n start →
+pub endless_scans : (room n start : ℕ) (table inputs : List ℕ) → run_of room table inputs ≡ closes_at n start →
     let T = numbers_in table in
     let state = endless_state T (numbers_in inputs) in
     (read : ℕ) → (state read).phase ≡ Output → (write : ℕ) × ScanOf T state read write
 endless_scans room n start table inputs e read out =
-    let ok = ((run_exactly room table inputs (Closed n start) tt).0 e).0 in
+    let ok = ((run_exactly room table inputs (closes_at n start) tt).0 e).0 in
     let (some, few) = process_count (code_at table 0) ok.table_numbers ok.table_read in
     scan_turns (endless_is_run (numbers_in table) (numbers_in inputs)) some few read (λ k _ _. goes_on room n start table inputs e k) out

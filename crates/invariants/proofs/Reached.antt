@@ -6,8 +6,8 @@ use mathlib.Core.Path.{◌≡◌, refl, ◌∙◌}
 use mathlib.Core.List.{List, ◌∷◌}
 use native.Mathlib.Omega.{arith}
 use lib.ListN.{length, replicate, length-replicate, get_or-replicate}
+use Rattle.std.specs.Prelude.{Ok}
 use Rattle.coding.specs.Code.{Code, values}
-use Rattle.coding.specs.declared.Answer.TheVariants.{Count}
 use Rattle.ranges.specs.Limits.{most_processes, most_variables}
 use Rattle.table.specs.Table.{table_grammar}
 use Rattle.structure.specs.Allowed.{OneOf, Allowed}
@@ -113,7 +113,7 @@ module _ (t : Table) (h : Allowed most_processes t) where
   run_stays I taking state r j = inside t (sound most_processes t h) (state j) (run_allowed r j) (run_sized r j)
 
 -- So in every run of numbers that the reader accepts: they are those of an allowed table, and the run stays in it.
-pub accepted_run_allowed : (c : Code) (n : ℕ) → table_grammar most_processes c ≡ Count n →
+pub accepted_run_allowed : (c : Code) (n : ℕ) → table_grammar most_processes c ≡ Ok n →
     (t : Table) × (values c ≡ numbers_of t) × Allowed most_processes t × StaysInTable t (values c)
 accepted_run_allowed c n e =
     let a = accepted_is_allowed most_processes (omega arith) c n e in

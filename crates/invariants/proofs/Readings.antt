@@ -9,10 +9,10 @@ use mathlib.Core.Bool.{Bool, true, false}
 use lib.ListN.{length}
 use lib.Dec.{ltb, leb, eqb}
 use borrow.Author.Tests.{ltb-true, leb-true, leb-false, eqb-true, eqb-false}
+use Rattle.coding.specs.Refusal.{Answer, refused_at}
+use Rattle.std.specs.Prelude.{Ok, Err}
 use Rattle.coding.specs.Code.{Code, item, end, broken, values}
 use Rattle.coding.specs.declared.Cause.TheVariants.{NotAllowed}
-use Rattle.coding.specs.declared.Answer.{Answer}
-use Rattle.coding.specs.declared.Answer.TheVariants.{Count, Refused}
 use Rattle.ranges.specs.Limits.{most_variables, most_scans}
 use Rattle.ranges.specs.Values.{pick, within}
 use Rattle.ranges.specs.Order.{allowed}
@@ -27,8 +27,8 @@ use Rattle.endless.specs.Unrolled.{recorded_scan}
 
 -- What is accepted has so many numbers.
 abbrev Just : ℕ → Answer → Type 0
-Just size (Count n) = n ≡ size
-Just size (Refused cause p) = Unit {0}
+Just size (Ok n) = n ≡ size
+Just size (Err why) = Unit {0}
 
 ended_just : (size n : ℕ) (c : Code) → n ≡ size → Just size (ended n c)
 ended_just size n (item p v c) h = tt
@@ -82,18 +82,18 @@ unfolding inputs_grammar
 inputs_just inputs c = go (ltb most_variables inputs)
   where
     go : (t : Bool) →
-        Just (2 + scans_of (values c) * inputs) (pick t (Refused NotAllowed 0) (check 0 (Scans inputs) 0 c))
+        Just (2 + scans_of (values c) * inputs) (pick t (refused_at NotAllowed 0) (check 0 (Scans inputs) 0 c))
     go true = tt
     go false = scans_just inputs c
 
-pub inputs_length : (inputs : ℕ) (c : Code) (n : ℕ) → inputs_grammar inputs c ≡ Count n →
+pub inputs_length : (inputs : ℕ) (c : Code) (n : ℕ) → inputs_grammar inputs c ≡ Ok n →
     length (values c) ≡ 2 + scans_of (values c) * inputs
 inputs_length inputs c n e =
-    let h : Just (2 + scans_of (values c) * inputs) (Count n) = rw e at (inputs_just inputs c) in
+    let h : Just (2 + scans_of (values c) * inputs) (Ok n) = rw e at (inputs_just inputs c) in
     sym ((fair_inputs inputs).counts c n e) ∙ h
 
 -- So the place at which `reading_of` looks, in each of the scans, is one of the record.
-pub reading_there : (inputs : ℕ) (c : Code) (n : ℕ) → inputs_grammar inputs c ≡ Count n → (done k : ℕ) →
+pub reading_there : (inputs : ℕ) (c : Code) (n : ℕ) → inputs_grammar inputs c ≡ Ok n → (done k : ℕ) →
     done < scans_of (values c) → k < inputs →
     2 + inputs * done + k < length (values c)
 reading_there inputs c n e done k h l =

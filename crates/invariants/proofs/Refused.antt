@@ -10,7 +10,8 @@ use mathlib.Core.Bool.{Bool, true, false}
 use mathlib.Core.List.{List}
 use lib.Dec.{ltb}
 use borrow.Author.Tests.{ltb-true}
-use Rattle.std.specs.Prelude.{Option, None, Some}
+use Rattle.run.specs.declared.Stop.TheVariants.{Halted, Refused}
+use Rattle.std.specs.Prelude.{Option, None, Some, Ok, Err}
 use Rattle.coding.specs.declared.Cause.{Cause}
 use Rattle.coding.specs.declared.Cause.TheVariants.{LongRun, NotClosed}
 use Rattle.ranges.specs.Values.{pick}
@@ -18,10 +19,8 @@ use Rattle.lookups.specs.Places.{scans_of, return_of}
 use Rattle.controller.specs.Same.{same_state}
 use Rattle.controller.proofs.Equal.{same_is_equal, equal_is_same}
 use Rattle.run.specs.Limits.{last_state}
-use Rattle.run.specs.Running.{recorded_move, stopped_at, reached, to_return, to_end, halted, closing, ran_of}
+use Rattle.run.specs.Running.{recorded_move, stopped_at, reached, to_return, to_end, halted, closing, ran_of, Ran, closes_at}
 use Rattle.run.specs.declared.Reached.{Reached}
-use Rattle.run.specs.declared.Ran.{Ran}
-use Rattle.run.specs.declared.Ran.TheVariants.{Closed, Halted, Refused}
 use Rattle.endless.specs.Recorded.{state_at, MovesOn}
 use Rattle.endless.proofs.States.{Arrived, Came, is_here, is_stopped, no_room, goes_on, on_or_stopped}
 use Rattle.endless.proofs.Ended.{came_back, came_end}
@@ -164,7 +163,7 @@ module _ (T I : List ℕ) where
   by_closing back last e f b l = go (same_state last.machine.state back.machine.state) refl
     where
       go : (x : Bool) → same_state last.machine.state back.machine.state ≡ x →
-          Ends T I (pick x (Closed last.number back.number) (Halted NotClosed (scans_of I) 0))
+          Ends T I (pick x (closes_at last.number back.number) (Err (Halted NotClosed (scans_of I) 0)))
       go true g =
           record { after_b = b; after_q = l; same = rw (e, f) at (same_is_equal last.machine.state back.machine.state g) }
       go false g = inr
@@ -268,13 +267,13 @@ module _ (T I : List ℕ) where
   not_both : {q j l : ℕ} {c : Cause} → Stops T I j c → (state_at T I j).scan < q → AfterScan T I q l → ⊥
   not_both {q} {j} {l} s early a = omega (arith, scans_rise T I l j (no_later s a.arises), a.done)
 
-  one_stop : {c d : Cause} {m n p q : ℕ} → StoppedBy T I c m p → StoppedBy T I d n q → Halted c m p ≡ Halted d n q
+  one_stop : {c d : Cause} {m n p q : ℕ} → StoppedBy T I c m p → StoppedBy T I d n q → Err (Halted c m p) ≡ Err (Halted d n q)
   one_stop {d = d} x y =
       let e = same_stop x.arises x.stops y.arises y.stops in
       let f = same_cause {d = d} x.stops (rw e y.stops) in
       rw (x.scan_is, x.process_is, y.scan_is, y.process_is, e, f) refl
 
-  one_difference : {c d : Cause} {m n p q : ℕ} → DiffersBy T I c m p → DiffersBy T I d n q → Halted c m p ≡ Halted d n q
+  one_difference : {c d : Cause} {m n p q : ℕ} → DiffersBy T I c m p → DiffersBy T I d n q → Err (Halted c m p) ≡ Err (Halted d n q)
   one_difference x y =
       rw (x.cause_is, x.scan_is, x.process_is, y.cause_is, y.scan_is, y.process_is) refl
 
@@ -282,29 +281,29 @@ module _ (T I : List ℕ) where
   not_either : {c : Cause} {m p n start : ℕ} → DiffersBy T I c m p → ClosesBy T I n start → ⊥
   not_either x y = x.differ (rw (same_after x.after_b y.after_b, same_after x.after_q y.after_q) y.same)
 
-  if_stopped : {c : Cause} {m p : ℕ} → StoppedBy T I c m p → (s : Ran) → Ends T I s → Halted c m p ≡ s
-  if_stopped x (Halted d n q) (inl y) = one_stop x y
-  if_stopped x (Halted d n q) (inr y) = absurd (not_both x.stops x.early y.after_q)
-  if_stopped x (Closed n start) y = absurd (not_both x.stops x.early y.after_q)
-  if_stopped x (Refused cause place) y = absurd y
+  if_stopped : {c : Cause} {m p : ℕ} → StoppedBy T I c m p → (s : Ran) → Ends T I s → Err (Halted c m p) ≡ s
+  if_stopped x (Err (Halted d n q)) (inl y) = one_stop x y
+  if_stopped x (Err (Halted d n q)) (inr y) = absurd (not_both x.stops x.early y.after_q)
+  if_stopped x (Ok closed) y = absurd (not_both x.stops x.early y.after_q)
+  if_stopped x (Err (Refused why)) y = absurd y
 
-  if_different : {c : Cause} {m p : ℕ} → DiffersBy T I c m p → (s : Ran) → Ends T I s → Halted c m p ≡ s
-  if_different x (Halted d n q) (inl y) = absurd (not_both y.stops y.early x.after_q)
-  if_different x (Halted d n q) (inr y) = one_difference x y
-  if_different x (Closed n start) y = absurd (not_either x y)
-  if_different x (Refused cause place) y = absurd y
+  if_different : {c : Cause} {m p : ℕ} → DiffersBy T I c m p → (s : Ran) → Ends T I s → Err (Halted c m p) ≡ s
+  if_different x (Err (Halted d n q)) (inl y) = absurd (not_both y.stops y.early x.after_q)
+  if_different x (Err (Halted d n q)) (inr y) = one_difference x y
+  if_different x (Ok closed) y = absurd (not_either x y)
+  if_different x (Err (Refused why)) y = absurd y
 
-  if_closed : {n start : ℕ} → ClosesBy T I n start → (s : Ran) → Ends T I s → Closed n start ≡ s
-  if_closed x (Halted c m p) (inl y) = absurd (not_both y.stops y.early x.after_q)
-  if_closed x (Halted c m p) (inr y) = absurd (not_either y x)
-  if_closed x (Closed m back) y = rw (same_after x.after_b y.after_b, same_after x.after_q y.after_q) refl
-  if_closed x (Refused cause place) y = absurd y
+  if_closed : {n start : ℕ} → ClosesBy T I n start → (s : Ran) → Ends T I s → closes_at n start ≡ s
+  if_closed x (Err (Halted c m p)) (inl y) = absurd (not_both y.stops y.early x.after_q)
+  if_closed x (Err (Halted c m p)) (inr y) = absurd (not_either y x)
+  if_closed x (Ok closed) y = rw (same_after x.after_b y.after_b, same_after x.after_q y.after_q) refl
+  if_closed x (Err (Refused why)) y = absurd y
 
   one_end : (r s : Ran) → Ends T I r → Ends T I s → r ≡ s
-  one_end (Halted c m p) s (inl x) y = if_stopped x s y
-  one_end (Halted c m p) s (inr x) y = if_different x s y
-  one_end (Closed n start) s x y = if_closed x s y
-  one_end (Refused cause place) s x y = absurd x
+  one_end (Err (Halted c m p)) s (inl x) y = if_stopped x s y
+  one_end (Err (Halted c m p)) s (inr x) y = if_different x s y
+  one_end (Ok closed) s x y = if_closed x s y
+  one_end (Err (Refused why)) s x y = absurd x
 
 -- A run answers what its states say, and nothing else. Of inputs whose return scan is below their scans, as accepted
 -- ones have it.

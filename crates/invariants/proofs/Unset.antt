@@ -8,10 +8,11 @@ use mathlib.Core.Path.{◌≡◌, refl, ap}
 use mathlib.Core.List.{List, [], ◌∷◌}
 use lib.ListN.{length, drop, get_or}
 use lib.Seq.{get_or-drop}
+use Rattle.run.specs.Running.{closes_at}
+use Rattle.std.specs.Prelude.{Ok}
 use Rattle.coding.specs.Number.{Begin, number, none as no_number, first}
 use Rattle.coding.specs.Code.{item_or, code_from, code_at, values}
 use Rattle.coding.proofs.Trip.{Begins, written_read}
-use Rattle.coding.specs.declared.Answer.TheVariants.{Count}
 use Rattle.ranges.specs.Limits.{most_processes}
 use Rattle.table.specs.Table.{table_grammar}
 use Rattle.lookups.specs.Places.{inputs_of, reading_of, return_of}
@@ -19,7 +20,6 @@ use Rattle.structure.proofs.Whole.{accepted_is_allowed}
 use Rattle.controller.specs.State.{none, value_at, start as start_of}
 use Rattle.controller.specs.declared.Controller.{Controller}
 use Rattle.run.specs.Trace.{numbers_in, run_of}
-use Rattle.run.specs.declared.Ran.TheVariants.{Closed}
 use Rattle.run.specs.declared.Machine.{Machine}
 use Rattle.endless.specs.Recorded.{state_at}
 use Rattle.endless.proofs.Ended.{Ended, ended}
@@ -54,7 +54,7 @@ unfolding reading_of
 holding_set {T} {I} {v} {d} small h k b = rw (h.values k b) (small _)
 
 -- In every state after the first read, of the recorded run and of the endless run alike.
-pub never_unset : (table inputs : List ℕ) (n : ℕ) → table_grammar most_processes (code_at table 0) ≡ Count n →
+pub never_unset : (table inputs : List ℕ) (n : ℕ) → table_grammar most_processes (code_at table 0) ≡ Ok n →
     Bytes inputs →
     {taking : ℕ → ℕ} {state : ℕ → Machine} → RunOf (numbers_in table) (numbers_in inputs) taking state →
     (j : ℕ) → 1 ≤ j → InputsSet (numbers_in table) (state j).state.variables
@@ -78,13 +78,13 @@ at_start {start = start} h e = go (dec_lt 0 start)
 -- With an input variable, a run whose return scan is 0 never closes.
 pub never_from_start : (room : ℕ) (table inputs : List ℕ) → Bytes inputs → 1 ≤ inputs_of (numbers_in table) →
     return_of (numbers_in inputs) ≡ 0 →
-    (n start : ℕ) → ¬ (run_of room table inputs ≡ Closed n start)
+    (n start : ℕ) → ¬ (run_of room table inputs ≡ closes_at n start)
 never_from_start room table inputs bytes some back n start e =
     let T = numbers_in table in
     let I = numbers_in inputs in
     let h = ended room n start table inputs e in
     let zero = at_start h back in
-    let ok = ((run_exactly room table inputs (Closed n start) tt).0 e).0 in
+    let ok = ((run_exactly room table inputs (closes_at n start) tt).0 e).0 in
     let later : 1 ≤ n = omega (arith, start_below h) in
     let set = never_unset table inputs ok.table_numbers ok.table_read bytes (recorded_is_run T I) n later 0 some in
     let same : (state_at T I n).state ≡ (state_at T I 0).state = rw zero at h.same in

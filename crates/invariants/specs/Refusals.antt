@@ -3,7 +3,8 @@
 -- "scan q"; Actions: "6, looked for before 5, and 5 before 7"; Phases and the lasso: "The run closes if the whole state
 -- after scan q equals that after scan b (b = 0: the start)."
 -- Assumes nothing: these are definitions. That a run answers just so is a theorem (proofs/Refused.antt).
-use Rattle.std.specs.Prelude.{ℕ, ◌+◌, ◌<◌, ◌≤◌, ◌≡◌, ◌⊎◌, List}
+use Rattle.run.specs.declared.Stop.TheVariants.{Halted, Refused}
+use Rattle.std.specs.Prelude.{ℕ, ◌+◌, ◌<◌, ◌≤◌, ◌≡◌, ◌⊎◌, List, Ok, Err}
 use Rattle.coding.specs.declared.Cause.{Cause}
 use Rattle.coding.specs.declared.Cause.TheVariants.{NoRule as NoRuleFound, LongTurn, LongRun, NotClosed}
 use Rattle.lookups.specs.Places.{processes_of, scans_of, return_of}
@@ -11,10 +12,8 @@ use Rattle.structure.specs.Allowed.{OneOf}
 use Rattle.controller.specs.declared.Outcome.TheVariants.{NoRule}
 use Rattle.run.specs.Limits.{longest_turn, last_state}
 use Rattle.run.specs.Moves.{step_of}
-use Rattle.run.specs.Running.{turn_of}
+use Rattle.run.specs.Running.{turn_of, Ran}
 use Rattle.run.specs.declared.Machine.{Machine}
-use Rattle.run.specs.declared.Ran.{Ran}
-use Rattle.run.specs.declared.Ran.TheVariants.{Closed, Halted, Refused}
 use Rattle.endless.specs.Recorded.{state_at}
 
 -- The counter names a process, so that the next move is an action of it; any other move is a read or a write, which
@@ -73,6 +72,6 @@ pub record ClosesBy (T I : List ℕ) (n start : ℕ) : Type 0 where
 
 -- What each answer says of the run.
 abbrev pub Ends : List ℕ → List ℕ → Ran → Type 0
-Ends T I (Halted cause scan process) = StoppedBy T I cause scan process ⊎ DiffersBy T I cause scan process
-Ends T I (Closed n start) = ClosesBy T I n start
-Ends T I (Refused cause place) = ⊥
+Ends T I (Err (Halted cause scan process)) = StoppedBy T I cause scan process ⊎ DiffersBy T I cause scan process
+Ends T I (Ok closed) = ClosesBy T I closed.positions closed.start
+Ends T I (Err (Refused why)) = ⊥

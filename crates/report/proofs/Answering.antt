@@ -7,18 +7,17 @@ use mathlib.Core.Bool.{Bool}
 use mathlib.Core.List.{List, ◌++◌}
 use lib.ListN.{length, take, drop, replicate, length-replicate}
 use lib.Seq.{take-append_seam}
-use Rattle.coding.specs.Refusal.{number_of}
+use Rattle.std.specs.Prelude.{Err}
+use Rattle.run.specs.declared.Stop.TheVariants.{Halted}
+use Rattle.run.specs.Running.{Ran, closes_at, run_refused}
+use Rattle.coding.specs.Refusal.{number_of, refused_at}
 use Rattle.coding.specs.Room.{over}
 use Rattle.coding.specs.declared.Cause.{Cause}
 use Rattle.coding.proofs.Bytes.{over_eq, over_length}
 use Rattle.requirement.specs.declared.Kind.TheVariants.{Untranslated}
 use Rattle.lasso.specs.Bytes.{trace_of}
-use Rattle.judge.specs.Judging.{Checks, stop, go, checks_of, Judges, position_bytes}
-use Rattle.judge.specs.declared.Judged.{Judged}
-use Rattle.judge.specs.declared.Judged.TheVariants.{Verdict, Refused as NotJudged}
+use Rattle.judge.specs.Judging.{Checks, stop, go, checks_of, Judges, position_bytes, Judgement, holds_with}
 use Rattle.run.specs.Trace.{trace_bytes, numbers_in, run_of, left_in}
-use Rattle.run.specs.declared.Ran.{Ran}
-use Rattle.run.specs.declared.Ran.TheVariants.{Closed, Halted, Refused}
 use Rattle.endless.proofs.Sized.{trace_length, closed_small}
 use Rattle.report.specs.Framing.{framing_of, between}
 use Rattle.report.specs.Lines.{refused_line, positions_line, verdict_line, count_line, at_lines, answer_lines}
@@ -36,11 +35,11 @@ module _ (n start : ℕ) (trace work list work' list' : List ℕ) (holds : Bool)
   abbrev AnswerText : List ℕ
   AnswerText = positions_line n start ++ (verdict_line holds ++ (count_line count ++ at_lines (pairs_from count 0 list')))
 
-  answer_few : (c : Checks) → Small trace c → Judges c (trace_of trace start) work list work' list' (Verdict holds count) → count ≤ 4096
+  answer_few : (c : Checks) → Small trace c → Judges c (trace_of trace start) work list work' list' (holds_with holds count) → count ≤ 4096
   answer_few (stop cause place) s j = let z : ◌≡◌ {A = ℕ} 0 1 = cc in absurd (omega arith)
   answer_few (go f) s j = omega (arith, s, j.counted, findings_few (trace_of trace start) f j.found j.findings)
 
-  answer_text : length list ≡ 8192 → (c : Checks) → Small trace c → Judges c (trace_of trace start) work list work' list' (Verdict holds count) →
+  answer_text : length list ≡ 8192 → (c : Checks) → Small trace c → Judges c (trace_of trace start) work list work' list' (holds_with holds count) →
       OfJudging c (trace_of trace start) n start AnswerText
   unfolding answer_lines
   answer_text l (stop cause place) s j = let z : ◌≡◌ {A = ℕ} 0 1 = cc in absurd (omega arith)
@@ -49,13 +48,13 @@ module _ (n start : ℕ) (trace work list work' list' : List ℕ) (holds : Bool)
       pairs_back j.found list (omega (arith, l, s, findings_few (trace_of trace start) f j.found j.findings)) in
       record { holds = holds; verdict = j.verdict; found = j.found; findings = j.findings; lines = rw (j.counted, j.listed, back) }
 
-module _ (code trace work list work' list' : List ℕ) (start : ℕ) (r : Judged) (w : length work ≡ 8192) (l : length list ≡ 8192)
+module _ (code trace work list work' list' : List ℕ) (start : ℕ) (r : Judgement) (w : length work ≡ 8192) (l : length list ≡ 8192)
     (judged : Judges (checks_of Untranslated code trace start (length work) (length list)) (trace_of trace start) work list work' list' r) where
   by_room_lem : Judges (checks_of Untranslated code trace start work_room list_room) (trace_of trace start) work list work' list' r
   by_room_lem = rw (w, l) at judged
 
-  module _ (holds : Bool) (count : ℕ) (e : r ≡ Verdict holds count) where
-    answered : Judges (checks_of Untranslated code trace start work_room list_room) (trace_of trace start) work list work' list' (Verdict holds count)
+  module _ (holds : Bool) (count : ℕ) (e : r ≡ holds_with holds count) where
+    answered : Judges (checks_of Untranslated code trace start work_room list_room) (trace_of trace start) work list work' list' (holds_with holds count)
     answered = rw e at by_room_lem
 
     pub count_few : count ≤ 4096
@@ -67,12 +66,12 @@ module _ (code trace work list work' list' : List ℕ) (start : ℕ) (r : Judged
     answer_prints n s d e p =
         printed _ _ s d e (answer_text n start trace work list work' list' holds count l (checks_of Untranslated code trace start work_room list_room) (small trace start Untranslated code work_room list_room) answered) p
 
-  refusal_text : (n : ℕ) (cause : Cause) (place : ℕ) (c : Checks) → Judges c (trace_of trace start) work list work' list' (NotJudged cause place) →
+  refusal_text : (n : ℕ) (cause : Cause) (place : ℕ) (c : Checks) → Judges c (trace_of trace start) work list work' list' (refused_at cause place) →
       OfJudging c (trace_of trace start) n start (refused_line (number_of cause) place)
   refusal_text n cause place (go f) j = absurd j
   refusal_text n cause place (stop cause' place') (e, _, _) = let f : cause ≡ cause' = cc in let g : place ≡ place' = cc in rw (f, g)
 
-  pub refusal_prints : (n : ℕ) (cause : Cause) (place : ℕ) → r ≡ NotJudged cause place → (s : ℕ) (d e : List ℕ) → Put (refused_line (number_of cause) place) 0 s d e × (s ≤ 100000) →
+  pub refusal_prints : (n : ℕ) (cause : Cause) (place : ℕ) → r ≡ refused_at cause place → (s : ℕ) (d e : List ℕ) → Put (refused_line (number_of cause) place) 0 s d e × (s ≤ 100000) →
       Prints (OfJudging (checks_of Untranslated code trace start work_room list_room) (trace_of trace start) n start) s d e
   refusal_prints n cause place e s d d' p = printed _ _ s d d' (refusal_text n cause place (checks_of Untranslated code trace start work_room list_room) (rw e at by_room_lem)) p
 
@@ -82,7 +81,7 @@ module _ (table inputs code trace trace' : List ℕ) (r : Ran) (l : length trace
   by_ran : (x : Ran) → r ≡ x → run_of 20480 table inputs ≡ x
   by_ran x e = rw l at (sym ran) ∙ e
 
-  module _ (n start : ℕ) (e : r ≡ Closed n start) where
+  module _ (n start : ℕ) (e : r ≡ closes_at n start) where
     pub closed_few : n ≤ 4096
     closed_few = closed_small (length trace) n start table inputs (sym ran ∙ e)
 
@@ -112,15 +111,15 @@ module _ (table inputs code trace trace' : List ℕ) (r : Ran) (l : length trace
         Prints (OfJudging (checks_of Untranslated code (take (n * 5 - 0) (drop 0 trace')) start work_room list_room) (trace_of (take (n * 5 - 0) (drop 0 trace')) start) n start) s d e →
         Prints (OfBlocks table inputs code) s d e
     closed_prints s d d' p =
-        record { text = p.text; true_of = rw (by_ran (Closed n start) e, ← closed_part) p.true_of; count = p.count; short = p.short; stands = p.stands }
+        record { text = p.text; true_of = rw (by_ran (closes_at n start) e, ← closed_part) p.true_of; count = p.count; short = p.short; stands = p.stands }
 
-  pub halted_prints : (cause : Cause) (scan process : ℕ) → r ≡ Halted cause scan process → (s : ℕ) (d e : List ℕ) → Put (refused_line (number_of cause) scan) 0 s d e × (s ≤ 100000) →
+  pub halted_prints : (cause : Cause) (scan process : ℕ) → r ≡ Err (Halted cause scan process) → (s : ℕ) (d e : List ℕ) → Put (refused_line (number_of cause) scan) 0 s d e × (s ≤ 100000) →
       Prints (OfBlocks table inputs code) s d e
-  halted_prints cause scan process e s d d' p = printed _ (refused_line (number_of cause) scan) s d d' (rw (by_ran (Halted cause scan process) e)) p
+  halted_prints cause scan process e s d d' p = printed _ (refused_line (number_of cause) scan) s d d' (rw (by_ran (Err (Halted cause scan process)) e)) p
 
-  pub refused_prints : (cause : Cause) (place : ℕ) → r ≡ Refused cause place → (s : ℕ) (d e : List ℕ) → Put (refused_line (number_of cause) place) 0 s d e × (s ≤ 100000) →
+  pub refused_prints : (cause : Cause) (place : ℕ) → r ≡ run_refused cause place → (s : ℕ) (d e : List ℕ) → Put (refused_line (number_of cause) place) 0 s d e × (s ≤ 100000) →
       Prints (OfBlocks table inputs code) s d e
-  refused_prints cause place e s d d' p = printed _ (refused_line (number_of cause) place) s d d' (rw (by_ran (Refused cause place) e)) p
+  refused_prints cause place e s d d' p = printed _ (refused_line (number_of cause) place) s d d' (rw (by_ran (run_refused cause place) e)) p
 
 -- ---- the whole answer
 module _ (s : List ℕ) where

@@ -9,6 +9,7 @@ use mathlib.Core.Bool.{Bool, true, false}
 use mathlib.Core.List.{List}
 use lib.ListN.{length}
 use borrow.Author.Tests.{le-ltb}
+use Rattle.run.specs.Running.{closes_at}
 use Rattle.coding.specs.Code.{code_at}
 use Rattle.coding.specs.Refusal.{number_of}
 use Rattle.coding.specs.declared.Cause.{Cause}
@@ -23,7 +24,6 @@ use Rattle.lasso.specs.Bytes.{positions, mark_b, inputs_in}
 use Rattle.judge.specs.Judging.{stop, go, checks_of, by_room, work_asked}
 use Rattle.run.specs.Limits.{trace_room}
 use Rattle.run.specs.Trace.{trace_bytes, numbers_in, run_of}
-use Rattle.run.specs.declared.Ran.TheVariants.{Closed}
 use Rattle.endless.proofs.Closed.{run_is_lasso}
 use Rattle.endless.proofs.Sized.{trace_length, closed_small}
 use Rattle.report.specs.Reporting.{work_room, list_room}
@@ -56,7 +56,7 @@ module _ (code trace : List ℕ) (start : ℕ) where
   unfolding checks_of
   unread_stops cause place e = rw e
 
-module _ (table inputs code : List ℕ) (n start : ℕ) (closes : run_of trace_room table inputs ≡ Closed n start) where
+module _ (table inputs code : List ℕ) (n start : ℕ) (closes : run_of trace_room table inputs ≡ closes_at n start) where
   abbrev RunTrace : List ℕ
   RunTrace = trace_bytes (numbers_in table) (numbers_in inputs) n
 

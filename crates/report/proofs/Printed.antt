@@ -6,11 +6,12 @@ use mathlib.Core.Path.{◌≡◌, refl}
 use mathlib.Core.List.{List}
 use lib.ListN.{length}
 use lib.Dec.{ltb}
+use Rattle.run.specs.declared.Stop.TheVariants.{Halted, Refused}
+use Rattle.run.specs.Running.{Ran, closes_at}
+use Rattle.std.specs.Prelude.{Ok, Err}
 use Rattle.coding.specs.Number.{number_at}
 use Rattle.coding.specs.Code.{code_at}
-use Rattle.coding.specs.Refusal.{number_of}
-use Rattle.coding.specs.declared.Number.{Number}
-use Rattle.coding.specs.declared.Number.TheVariants.{Value, Fault}
+use Rattle.coding.specs.Refusal.{number_of, NumberRead}
 use Rattle.coding.proofs.Causes.{OneNumber, by_test, number_one}
 use Rattle.requirement.proofs.Causes.{NamedParsed, parsed_named, requirement_most}
 use Rattle.table.proofs.Causes.{table_most}
@@ -19,12 +20,8 @@ use Rattle.requirement.specs.Reading.{Parsed, whole, unread, parsed}
 use Rattle.requirement.specs.declared.Kind.TheVariants.{Untranslated}
 use Rattle.run.specs.Limits.{trace_room}
 use Rattle.run.specs.Trace.{trace_bytes, numbers_in, run_of}
-use Rattle.run.specs.declared.Ran.{Ran}
-use Rattle.run.specs.declared.Ran.TheVariants.{Closed, Halted, Refused}
-use Rattle.report.specs.Framing.{longest_input, block_at, with_third, with_second, with_first, framing_of, between}
+use Rattle.report.specs.Framing.{longest_input, block_at, with_third, with_second, with_first, framing_of, between, BlockAt}
 use Rattle.report.specs.Reporting.{OfRun, OfBlocks, Reports}
-use Rattle.report.specs.declared.framing.Block.{Block}
-use Rattle.report.specs.declared.framing.Block.TheVariants.{Found, Missing}
 use Rattle.report.specs.declared.framing.Framed.{Framed}
 use Rattle.report.specs.declared.framing.Framed.TheVariants.{Blocks, Faulty}
 use Rattle.report.specs.MadeUp.{Names}
@@ -33,9 +30,9 @@ use Rattle.report.proofs.Splitting.{block_by}
 use Rattle.report.proofs.Enough.{unread_stops, closed_goes}
 
 -- ---- "a faulty length, a block cut short or left-over bytes is refusal 1"
-abbrev OneBlock : Block → Type 0
-OneBlock (Found a b) = Unit {0}
-OneBlock (Missing cause place) = number_of cause ≡ 1
+abbrev OneBlock : BlockAt → Type 0
+OneBlock (Ok block) = Unit {0}
+OneBlock (Err why) = number_of why.cause ≡ 1
 
 abbrev OneFramed : Framed → Type 0
 OneFramed (Blocks a b c d e f) = Unit {0}
@@ -46,21 +43,21 @@ module _ (s : List ℕ) where
   unfolding block_at
   block_one at = go (number_at s at) (number_one s at)
     where
-      go : (x : Number) → OneNumber x → OneBlock (block_by s at x)
-      go (Value n next) o = by_test OneBlock (ltb (length s - next) n) _ _ refl tt
-      go (Fault cause place) o = o
+      go : (x : NumberRead) → OneNumber x → OneBlock (block_by s at x)
+      go (Ok num) o = by_test OneBlock (ltb (length s - num.next) num.value) _ _ refl tt
+      go (Err why) o = o
 
-  third_one : (a b c d : ℕ) (x : Block) → OneBlock x → OneFramed (with_third s a b c d x)
-  third_one a b c d (Found e f) o = by_test OneFramed (ltb f (length s)) _ _ refl tt
-  third_one a b c d (Missing cause place) o = o
+  third_one : (a b c d : ℕ) (x : BlockAt) → OneBlock x → OneFramed (with_third s a b c d x)
+  third_one a b c d (Ok block) o = by_test OneFramed (ltb block.end (length s)) _ _ refl tt
+  third_one a b c d (Err why) o = o
 
-  second_one : (a b : ℕ) (x : Block) → OneBlock x → OneFramed (with_second s a b x)
-  second_one a b (Found c d) o = third_one a b c d (block_at s d) (block_one d)
-  second_one a b (Missing cause place) o = o
+  second_one : (a b : ℕ) (x : BlockAt) → OneBlock x → OneFramed (with_second s a b x)
+  second_one a b (Ok block) o = third_one a b block.begin block.end (block_at s block.end) (block_one block.end)
+  second_one a b (Err why) o = o
 
-  first_one : (x : Block) → OneBlock x → OneFramed (with_first s x)
-  first_one (Found a b) o = second_one a b (block_at s b) (block_one b)
-  first_one (Missing cause place) o = o
+  first_one : (x : BlockAt) → OneBlock x → OneFramed (with_first s x)
+  first_one (Ok block) o = second_one block.begin block.end (block_at s block.end) (block_one block.end)
+  first_one (Err why) o = o
 
   pub framing_one : OneFramed (framing_of s)
   unfolding framing_of
@@ -69,9 +66,9 @@ module _ (s : List ℕ) where
 -- ---- by what the framing, the run and the requirement's reader answer
 module _ (s text : List ℕ) where
   module _ (table inputs code : List ℕ) (blocks : Names s (framing_of s) table inputs code) where
-    by_parsed : (n start : ℕ) → run_of trace_room table inputs ≡ Closed n start →
+    by_parsed : (n start : ℕ) → run_of trace_room table inputs ≡ closes_at n start →
         (x : Parsed) → parsed Untranslated (code_at code 0) ≡ x → NamedParsed x →
-        OfRun (Closed n start) (numbers_in table) (numbers_in inputs) code text → Printed s text
+        OfRun (closes_at n start) (numbers_in table) (numbers_in inputs) code text → Printed s text
     by_parsed n start closes (whole f) e o r =
         answered
         (record {
@@ -93,10 +90,10 @@ module _ (s text : List ℕ) where
 
     by_run : (x : Ran) → run_of trace_room table inputs ≡ x → NamedRan x →
         OfRun x (numbers_in table) (numbers_in inputs) code text → Printed s text
-    by_run (Closed n start) e o r =
-        by_parsed n start e (parsed Untranslated (code_at code 0)) refl (parsed_named Untranslated code) r
-    by_run (Halted cause scan process) e o r = let m = run_most o in refused cause scan (omega (arith, m.0)) m.1 r
-    by_run (Refused cause place) e o r = let m = table_most o in refused cause place m.0 (omega (arith, m.1)) r
+    by_run (Ok closed) e o r =
+        by_parsed closed.positions closed.start e (parsed Untranslated (code_at code 0)) refl (parsed_named Untranslated code) r
+    by_run (Err (Halted cause scan process)) e o r = let m = run_most o in refused cause scan (omega (arith, m.0)) m.1 r
+    by_run (Err (Refused why)) e o r = let m = table_most o in refused why.cause why.place m.0 (omega (arith, m.1)) r
 
   by_framed : (w : Framed) → framing_of s ≡ w → OneFramed w → Reports s w text → Printed s text
   by_framed (Faulty cause place) e o r = refused cause place (omega (arith, o)) (omega (arith, o)) r

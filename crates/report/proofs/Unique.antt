@@ -9,6 +9,9 @@ use lib.ListN.{length}
 use contract.Lifetimes.{Lfts}
 use borrow.Fn.Kinds.{Dens, ended_of}
 use denote.Triple.Clauses.{AtExit}
+use Rattle.run.specs.declared.Stop.TheVariants.{Halted, Refused}
+use Rattle.run.specs.Running.{Ran}
+use Rattle.std.specs.Prelude.{Ok, Err}
 use Rattle.requirement.specs.Requirement.{Requirement}
 use Rattle.requirement.specs.declared.Kind.TheVariants.{Untranslated}
 use Rattle.meaning.specs.Trace.{Trace}
@@ -17,8 +20,6 @@ use Rattle.lasso.specs.Bytes.{trace_of}
 use Rattle.judge.specs.Judging.{Checks, stop, go, checks_of}
 use Rattle.run.specs.Limits.{trace_room}
 use Rattle.run.specs.Trace.{trace_bytes, numbers_in, run_of}
-use Rattle.run.specs.declared.Ran.{Ran}
-use Rattle.run.specs.declared.Ran.TheVariants.{Closed, Halted, Refused}
 use Rattle.report.specs.Framing.{framing_of, between}
 use Rattle.report.specs.Reporting.{work_room, list_room, Answered, OfJudging, OfRun, Reports}
 use Rattle.report.specs.declared.framing.Framed.{Framed}
@@ -45,10 +46,10 @@ module _ (x y : List ℕ) where
   one_judging (go f) t n start a b = one_answer t f n start a b
 
   one_run : (r : Ran) (T I code : List ℕ) → OfRun r T I code x → OfRun r T I code y → x ≡ y
-  one_run (Closed n start) T I code a b =
-      one_judging (checks_of Untranslated code (trace_bytes T I n) start work_room list_room) (trace_of (trace_bytes T I n) start) n start a b
-  one_run (Halted cause scan process) T I code a b = a ∙ sym b
-  one_run (Refused cause place) T I code a b = a ∙ sym b
+  one_run (Ok closed) T I code a b =
+      one_judging (checks_of Untranslated code (trace_bytes T I closed.positions) closed.start work_room list_room) (trace_of (trace_bytes T I closed.positions) closed.start) closed.positions closed.start a b
+  one_run (Err (Halted cause scan process)) T I code a b = a ∙ sym b
+  one_run (Err (Refused why)) T I code a b = a ∙ sym b
 
   one_framed : (s : List ℕ) (w : Framed) → Reports s w x → Reports s w y → x ≡ y
   one_framed s (Faulty cause place) p q = p ∙ sym q

@@ -2,6 +2,7 @@
 -- trace is always well-formed, its own buffers are always long enough, and it asks for no name: 9, 10 and 11 are never
 -- printed.
 -- Assumes nothing: these are definitions.
+use Rattle.run.specs.Running.{closes_at}
 use Rattle.std.specs.Prelude.{ℕ, ◌≤◌, ◌≡◌, List}
 use Rattle.coding.specs.Code.{code_at}
 use Rattle.coding.specs.Refusal.{number_of}
@@ -12,7 +13,6 @@ use Rattle.requirement.specs.declared.Kind.TheVariants.{Untranslated}
 use Rattle.lasso.specs.Bytes.{trace_of}
 use Rattle.run.specs.Limits.{trace_room}
 use Rattle.run.specs.Trace.{trace_bytes, numbers_in, run_of}
-use Rattle.run.specs.declared.Ran.TheVariants.{Closed}
 use Rattle.report.specs.Framing.{framing_of}
 use Rattle.report.specs.Lines.{refused_line}
 use Rattle.report.specs.Reporting.{Answered}
@@ -27,7 +27,7 @@ pub record AcceptedInput (s : List ℕ) : Type 0 where
   pub blocks : Names s (framing_of s) table inputs code
   pub positions : ℕ
   pub start : ℕ
-  pub closes : run_of trace_room table inputs ≡ Closed positions start
+  pub closes : run_of trace_room table inputs ≡ closes_at positions start
   pub requirement : Requirement
   pub reads : parsed Untranslated (code_at code 0) ≡ whole requirement
 

@@ -1,6 +1,8 @@
 -- What scancheck prints for an input. Document 01, The bench case: the framing first; "then it runs and judges, places counting within their block".
 -- Assumes nothing: these are definitions.
-use Rattle.std.specs.Prelude.{ℕ, ◌≡◌, ◌↔◌, Bool, true, List}
+use Rattle.run.specs.declared.Stop.TheVariants.{Halted, Refused}
+use Rattle.run.specs.Running.{Ran}
+use Rattle.std.specs.Prelude.{ℕ, ◌≡◌, ◌↔◌, Bool, true, List, Ok, Err}
 use Rattle.coding.specs.Refusal.{number_of}
 use Rattle.requirement.specs.Requirement.{Requirement}
 use Rattle.requirement.specs.declared.Kind.TheVariants.{Untranslated}
@@ -11,8 +13,6 @@ use Rattle.lasso.specs.Bytes.{trace_of}
 use Rattle.judge.specs.Judging.{Checks, stop, go, checks_of}
 use Rattle.run.specs.Limits.{trace_room}
 use Rattle.run.specs.Trace.{trace_bytes, numbers_in, run_of}
-use Rattle.run.specs.declared.Ran.{Ran}
-use Rattle.run.specs.declared.Ran.TheVariants.{Closed, Halted, Refused}
 use Rattle.report.specs.Framing.{between}
 use Rattle.report.specs.Lines.{refused_line, answer_lines}
 use Rattle.report.specs.declared.framing.Framed.{Framed}
@@ -38,10 +38,10 @@ OfJudging (stop cause place) t n start text = text ≡ refused_line (number_of c
 OfJudging (go f) t n start text = Answered t f n start text
 
 abbrev pub OfRun : Ran → List ℕ → List ℕ → List ℕ → List ℕ → Type 0
-OfRun (Closed n start) T I code text =
-    OfJudging (checks_of Untranslated code (trace_bytes T I n) start work_room list_room) (trace_of (trace_bytes T I n) start) n start text
-OfRun (Halted cause scan process) T I code text = text ≡ refused_line (number_of cause) scan
-OfRun (Refused cause place) T I code text = text ≡ refused_line (number_of cause) place
+OfRun (Ok closed) T I code text =
+    OfJudging (checks_of Untranslated code (trace_bytes T I closed.positions) closed.start work_room list_room) (trace_of (trace_bytes T I closed.positions) closed.start) closed.positions closed.start text
+OfRun (Err (Halted cause scan process)) T I code text = text ≡ refused_line (number_of cause) scan
+OfRun (Err (Refused why)) T I code text = text ≡ refused_line (number_of why.cause) why.place
 
 abbrev pub OfBlocks : List ℕ → List ℕ → List ℕ → List ℕ → Type 0
 OfBlocks table inputs code text = OfRun (run_of trace_room table inputs) (numbers_in table) (numbers_in inputs) code text

@@ -7,13 +7,12 @@ use mathlib.Core.Bool.{Bool, true, false}
 use mathlib.Core.List.{List}
 use lib.Dec.{ltb, eqb}
 use borrow.Author.Tests.{le-ltb}
-use Rattle.std.specs.Prelude.{Option, None, Some}
+use Rattle.run.specs.declared.Stop.TheVariants.{Halted, Refused}
+use Rattle.std.specs.Prelude.{Option, None, Some, Ok, Err}
 use Rattle.coding.specs.Code.{code_at}
-use Rattle.coding.specs.Refusal.{number_of}
+use Rattle.coding.specs.Refusal.{number_of, Answer}
 use Rattle.coding.specs.declared.Cause.{Cause}
 use Rattle.coding.specs.declared.Cause.TheVariants.{LongRun}
-use Rattle.coding.specs.declared.Answer.{Answer}
-use Rattle.coding.specs.declared.Answer.TheVariants.{Count, Refused as NotRead}
 use Rattle.ranges.specs.Limits.{most_processes}
 use Rattle.ranges.specs.Values.{pick}
 use Rattle.lookups.specs.Places.{inputs_of, processes_of, scans_of, return_of}
@@ -24,13 +23,11 @@ use Rattle.table.specs.Table.{table_grammar, inputs_grammar}
 use Rattle.table.proofs.Causes.{NotTable, NamedAnswer, table_named, inputs_named}
 use Rattle.run.specs.Limits.{longest_turn, last_state, trace_room}
 use Rattle.run.specs.Moves.{begun, step_of, too_long, unruled, before, unless, after_action, action_move, move_of}
-use Rattle.run.specs.Running.{recorded_move, stopped_at, reached, to_return, to_end, halted, closing, ran_of}
+use Rattle.run.specs.Running.{recorded_move, stopped_at, reached, to_return, to_end, halted, closing, ran_of, Ran}
 use Rattle.run.specs.Trace.{numbers_in, by_inputs, by_table, run_of}
 use Rattle.run.specs.declared.Machine.{Machine}
 use Rattle.run.specs.declared.Moved.{Moved}
 use Rattle.run.specs.declared.Reached.{Reached}
-use Rattle.run.specs.declared.Ran.{Ran}
-use Rattle.run.specs.declared.Ran.TheVariants.{Closed, Halted, Refused}
 
 -- The numbers that a run is refused by once it runs.
 pub data NotRun : ℕ → Type 0 where
@@ -45,9 +42,9 @@ NamedStop None = Unit {0}
 NamedStop (Some cause) = NotRun (number_of cause)
 
 abbrev pub NamedRan : Ran → Type 0
-NamedRan (Closed n start) = Unit {0}
-NamedRan (Halted cause scan process) = NotRun (number_of cause)
-NamedRan (Refused cause place) = NotTable (number_of cause)
+NamedRan (Ok closed) = Unit {0}
+NamedRan (Err (Halted cause scan process)) = NotRun (number_of cause)
+NamedRan (Err (Refused why)) = NotTable (number_of why.cause)
 
 by_test : {A : Type 0} (P : A → Type 0) (t : Bool) (x y : A) → P x → P y → P (pick t x y)
 by_test P true x y p q = p
@@ -141,13 +138,13 @@ module _ (T I : List ℕ) where
 
 -- ---- the whole run
 by_inputs_lem : (T I : List ℕ) (a : Answer) → NamedAnswer a → NamedRan (by_inputs T I a)
-by_inputs_lem T I (Count n) h = named_ran T I
-by_inputs_lem T I (NotRead cause place) h = h
+by_inputs_lem T I (Ok n) h = named_ran T I
+by_inputs_lem T I (Err why) h = h
 
 by_table_lem : (T inputs : List ℕ) (a : Answer) → NamedAnswer a → NamedRan (by_table T inputs a)
-by_table_lem T inputs (Count n) h =
+by_table_lem T inputs (Ok n) h =
     by_inputs_lem T (numbers_in inputs) (inputs_grammar (inputs_of T) (code_at inputs 0)) (inputs_named (inputs_of T) inputs)
-by_table_lem T inputs (NotRead cause place) h = h
+by_table_lem T inputs (Err why) h = h
 
 -- Any bytes as table and inputs, where the lent buffer is not too short.
 pub run_named : (room : ℕ) (table inputs : List ℕ) → trace_room ≤ room → NamedRan (run_of room table inputs)

@@ -6,7 +6,8 @@ use mathlib.Core.Bool.{Bool, true, false}
 use mathlib.Core.List.{List, ◌++◌}
 use native.Mathlib.Omega.{arith}
 use lib.ListN.{length}
-use Rattle.std.specs.Prelude.{None, Some}
+use Rattle.run.specs.declared.Stop.TheVariants.{Halted, Refused}
+use Rattle.std.specs.Prelude.{None, Some, Ok, Err}
 use Rattle.coding.specs.Room.{over}
 use Rattle.coding.specs.declared.Cause.{Cause}
 use Rattle.coding.specs.declared.Cause.TheVariants.{NotClosed}
@@ -17,13 +18,11 @@ use Rattle.lookups.specs.Places.{scans_of, return_of}
 use Rattle.controller.specs.Same.{same_state}
 use Rattle.run.specs.Limits.{last_state, trace_room}
 use Rattle.run.specs.Moves.{begun}
-use Rattle.run.specs.Running.{to_return, to_end, halted, closing, ran_of}
+use Rattle.run.specs.Running.{to_return, to_end, halted, closing, ran_of, Ran, closes_at}
 use Rattle.run.specs.Trace.{path, trace_bytes, left_in}
 use Rattle.run.specs.Working.Walking.{Walked, Small, cleared_by}
 use Rattle.run.specs.declared.Machine.{Machine}
 use Rattle.run.specs.declared.Reached.{Reached}
-use Rattle.run.specs.declared.Ran.{Ran}
-use Rattle.run.specs.declared.Ran.TheVariants.{Closed, Halted, Refused}
 use Rattle.run.proofs.Onward.{Came, Below, below, number_up, path_length, path_join}
 use Rattle.run.proofs.Clearing.{clear_whole, clear_behind}
 
@@ -36,11 +35,11 @@ in_scan T I k from m d r e came cause g small =
 
 -- ---- the closing, by what the comparison of the two states tells
 module _ (q : ℕ) (back last : Reached) (same : Bool) (told : same ≡ same_state last.machine.state back.machine.state) where
-  pub alike : same ≡ true → Closed last.number back.number ≡ closing q back last
+  pub alike : same ≡ true → closes_at last.number back.number ≡ closing q back last
   unfolding closing
   alike e = rw (← told, e)
 
-  pub differs : same ≡ false → Halted NotClosed q 0 ≡ closing q back last
+  pub differs : same ≡ false → Err (Halted NotClosed q 0) ≡ closing q back last
   unfolding closing
   differs e = rw (← told, e)
 
@@ -108,7 +107,7 @@ module _ (T I : List ℕ) (b : ℕ) (m : Machine) (d : List ℕ) (back : Reached
         (join_over d e f (path T I (back.number - 0) m) (path T I (last.number - back.number) back.machine) (back.number * 5) came.2 came_on.2
         (omega (arith, path_length T I (back.number - 0) m)))
 
-    closes : m ≡ begun most_processes → (t : Bool) → Walked (pick t (Closed last.number back.number) (Halted NotClosed q 0)) T I d f
+    closes : m ≡ begun most_processes → (t : Bool) → Walked (pick t (closes_at last.number back.number) (Err (Halted NotClosed q 0))) T I d f
     closes s true = (came_on.1, rw s at whole_trace)
     closes s false = all_same_size
 
@@ -126,12 +125,12 @@ module _ (T I : List ℕ) (b : ℕ) (m : Machine) (d : List ℕ) (back : Reached
 -- ---- what is left once the rest is cleared
 module _ (T I d e : List ℕ) where
   pub small : (r : Ran) → Walked r T I d e → Small r
-  small (Closed n start) w = w.0
-  small (Halted cause scan process) w = omega arith
-  small (Refused cause place) w = omega arith
+  small (Ok closed) w = w.0
+  small (Err (Halted cause scan process)) w = omega arith
+  small (Err (Refused why)) w = omega arith
 
   pub left_over : (r : Ran) (f : List ℕ) → trace_room ≤ length d → Walked r T I d e → f ≡ cleared_by r e → f ≡ left_in r T I d
-  left_over (Closed n start) f room w c =
-      c ∙ rw w.1 (clear_behind d (trace_bytes T I n) (n * 5) (path_length T I n (begun most_processes)) (omega (arith, w.0)))
-  left_over (Halted cause scan process) f room w c = c ∙ rw (clear_whole e, w)
-  left_over (Refused cause place) f room w c = c ∙ w
+  left_over (Ok closed) f room w c =
+      c ∙ rw w.1 (clear_behind d (trace_bytes T I closed.positions) (closed.positions * 5) (path_length T I closed.positions (begun most_processes)) (omega (arith, w.0)))
+  left_over (Err (Halted cause scan process)) f room w c = c ∙ rw (clear_whole e, w)
+  left_over (Err (Refused why)) f room w c = c ∙ w

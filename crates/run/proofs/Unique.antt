@@ -4,7 +4,7 @@ use mathlib.Core.Path.{◌≡◌, sym, ◌∙◌}
 use contract.Lifetimes.{Lfts}
 use borrow.Fn.Kinds.{Dens, ended_of}
 use denote.Triple.Clauses.{AtExit}
-use Rattle.run.specs.declared.Ran.{Ran}
+use Rattle.run.specs.Running.{Ran}
 use Rattle.run.proofs.run.Kinds as run
 use Rattle.run.proofs.run.Reads as run_reads
 

@@ -1,6 +1,7 @@
 -- The run of a table over recorded inputs, and its closing. Document 01, Phases and the lasso, and Numbers of refusal 5 to 8.
 -- Assumes nothing: these are definitions.
-use Rattle.std.specs.Prelude.{ℕ, zero, suc, ◌+◌, ◌-◌, List, ltb, None, Some}
+use Rattle.run.specs.declared.Stop.TheVariants.{Halted, Refused}
+use Rattle.std.specs.Prelude.{ℕ, zero, suc, ◌+◌, ◌-◌, List, ltb, None, Some, Err, Result, Ok}
 use Rattle.coding.specs.declared.Cause.{Cause}
 use Rattle.coding.specs.declared.Cause.TheVariants.{CutShort, NotShortest, TooLarge, LeftOver, NotAllowed, NoSuchNode, PastLimit, NoRule, LongTurn, LongRun, NotClosed, BadTrace, ShortBuffer, NameAbsent}
 use Rattle.ranges.specs.Limits.{most_processes}
@@ -9,11 +10,11 @@ use Rattle.lookups.specs.Places.{scans_of, return_of}
 use Rattle.controller.specs.Same.{same_state}
 use Rattle.run.specs.Limits.{last_state}
 use Rattle.run.specs.Moves.{begun, move_of}
+use Rattle.run.specs.declared.Closed.{Closed}
+use Rattle.run.specs.declared.Stop.{Stop}
 use Rattle.run.specs.declared.Machine.{Machine}
 use Rattle.run.specs.declared.Moved.{Moved}
 use Rattle.run.specs.declared.Reached.{Reached}
-use Rattle.run.specs.declared.Ran.{Ran}
-use Rattle.run.specs.declared.Ran.TheVariants.{Closed, Halted}
 
 -- The move of a machine: the inputs of the scan after those that are done.
 abbrev pub recorded_move : List ℕ → List ℕ → Machine → Moved
@@ -65,15 +66,29 @@ turn_of BadTrace m = 0
 turn_of ShortBuffer m = 0
 turn_of NameAbsent m = 0
 
+-- What a run answers: a closed run, or what stopped it.
+abbrev pub Ran : Type 0
+Ran = Result Closed Stop
+
+abbrev pub closes_at : ℕ → ℕ → Ran
+closes_at positions start = Ok (record { positions = positions; start = start })
+
+-- What was given is refused.
+abbrev pub run_refused : Cause → ℕ → Ran
+run_refused cause place = Err (Refused (record { cause = cause; place = place }))
+
 -- The place of 5 to 7 is the "scan, from 1".
+abbrev pub stop_of : Cause → Machine → Stop
+stop_of cause m = Halted cause (m.scan + 1) (turn_of cause m)
+
 abbrev pub halted : Cause → Machine → Ran
-halted cause m = Halted cause (m.scan + 1) (turn_of cause m)
+halted cause m = Err (stop_of cause m)
 
 -- "The run closes if the whole state after scan q equals that after scan b .. The last state is then dropped and its predecessor is followed by the state that ended
 -- scan b." So the positions are the states before the last, and the loop starts at the state that ended scan b. Else 8, at "scan q".
 unfoldable pub closing : ℕ → Reached → Reached → Ran
 closing q back last =
-    pick (same_state last.machine.state back.machine.state) (Closed last.number back.number) (Halted NotClosed q 0)
+    pick (same_state last.machine.state back.machine.state) (closes_at last.number back.number) (Err (Halted NotClosed q 0))
 
 -- The run of a table's numbers T over the numbers I of an inputs record.
 unfoldable pub ran_of : List ℕ → List ℕ → Ran

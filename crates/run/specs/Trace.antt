@@ -1,13 +1,12 @@
 -- The trace that a run gives, apart from any buffer; and what a run of bytes answers and leaves in a lent buffer.
 -- Assumes nothing: these are definitions.
-use Rattle.std.specs.Prelude.{ℕ, zero, suc, List, [], ◌++◌, length, replicate, ltb}
+use Rattle.run.specs.declared.Stop.TheVariants.{Halted, Refused}
+use Rattle.std.specs.Prelude.{ℕ, zero, suc, List, [], ◌++◌, length, replicate, ltb, Ok, Err}
 use Rattle.coding.specs.Code.{code_at, values}
 use Rattle.coding.specs.Room.{over}
-use Rattle.coding.specs.Refusal.{accepted, refusal}
+use Rattle.coding.specs.Refusal.{accepted, refusal, Answer}
 use Rattle.coding.specs.declared.Told.{Told}
 use Rattle.coding.specs.declared.Cause.TheVariants.{ShortBuffer}
-use Rattle.coding.specs.declared.Answer.{Answer}
-use Rattle.coding.specs.declared.Answer.TheVariants.{Count, Refused as NotRead}
 use Rattle.ranges.specs.Limits.{most_processes}
 use Rattle.ranges.specs.Values.{pick}
 use Rattle.lookups.specs.Places.{inputs_of}
@@ -15,10 +14,8 @@ use Rattle.table.specs.Table.{table_grammar, inputs_grammar}
 use Rattle.scan.specs.Position.{state_bytes}
 use Rattle.run.specs.Limits.{trace_room}
 use Rattle.run.specs.Moves.{begun}
-use Rattle.run.specs.Running.{recorded_move, ran_of}
+use Rattle.run.specs.Running.{recorded_move, ran_of, Ran, run_refused}
 use Rattle.run.specs.declared.Machine.{Machine}
-use Rattle.run.specs.declared.Ran.{Ran}
-use Rattle.run.specs.declared.Ran.TheVariants.{Closed, Halted, Refused}
 
 -- The bytes of n states, one move after another.
 unfoldable pub path : List ℕ → List ℕ → ℕ → Machine → List ℕ
@@ -35,25 +32,25 @@ numbers_in s = values (code_at s 0)
 
 -- "A run checks: trace buffer under 20,480 bytes (10), table, inputs, scans."
 abbrev pub by_inputs : List ℕ → List ℕ → Answer → Ran
-by_inputs T I (Count n) = ran_of T I
-by_inputs T I (NotRead cause place) = Refused cause place
+by_inputs T I (Ok n) = ran_of T I
+by_inputs T I (Err why) = Err (Refused why)
 
 abbrev pub by_table : List ℕ → List ℕ → Answer → Ran
-by_table T inputs (Count n) = by_inputs T (numbers_in inputs) (inputs_grammar (inputs_of T) (code_at inputs 0))
-by_table T inputs (NotRead cause place) = Refused cause place
+by_table T inputs (Ok n) = by_inputs T (numbers_in inputs) (inputs_grammar (inputs_of T) (code_at inputs 0))
+by_table T inputs (Err why) = Err (Refused why)
 
 unfoldable pub run_of : ℕ → List ℕ → List ℕ → Ran
 run_of room table inputs =
-    pick (ltb room trace_room) (Refused ShortBuffer trace_room) (by_table (numbers_in table) inputs (table_grammar most_processes (code_at table 0)))
+    pick (ltb room trace_room) (run_refused ShortBuffer trace_room) (by_table (numbers_in table) inputs (table_grammar most_processes (code_at table 0)))
 
 -- "An accepted run zeroes the trace bytes past its end." "5 to 8 leave the trace buffer all zero." "1 to 4 and 9 to 11 change no buffer".
 abbrev pub left_in : Ran → List ℕ → List ℕ → List ℕ → List ℕ
-left_in (Closed n start) T I trace = over (replicate (length trace) 0) 0 (trace_bytes T I n)
-left_in (Halted cause scan process) T I trace = replicate (length trace) 0
-left_in (Refused cause place) T I trace = trace
+left_in (Ok closed) T I trace = over (replicate (length trace) 0) 0 (trace_bytes T I closed.positions)
+left_in (Err (Halted cause scan process)) T I trace = replicate (length trace) 0
+left_in (Err (Refused why)) T I trace = trace
 
 -- A run's answer in the paper's numbers: the position count and the loop start, or the refusal and its place.
 abbrev pub ran_told : Ran → Told
-ran_told (Closed n start) = accepted n start
-ran_told (Halted cause scan process) = refusal cause scan
-ran_told (Refused cause place) = refusal cause place
+ran_told (Ok closed) = accepted closed.positions closed.start
+ran_told (Err (Halted cause scan process)) = refusal cause scan
+ran_told (Err (Refused why)) = refusal why.cause why.place

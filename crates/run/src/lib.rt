@@ -9,6 +9,7 @@ mod places;
 mod route;
 
 ghost use Rattle.std.specs.Prelude.{◌≡◌, ◌≤◌, length};
+ghost use Rattle.run.specs.declared.Stop.TheVariants.{Refused};
 ghost use Rattle.run.specs.Limits.{trace_room};
 ghost use Rattle.run.specs.Running.{ran_of};
 ghost use Rattle.run.specs.Trace.{numbers_in, by_inputs, run_of, left_in};
@@ -16,7 +17,7 @@ ghost use Rattle.table.specs.Table.{inputs_grammar};
 ghost use Rattle.coding.specs.Code.{code_at};
 ghost use Rattle.lookups.specs.Places.{inputs_of};
 
-use coding::{Answer, Cause};
+use coding::{Cause, Refusal};
 use controller::Controller;
 use requirement::Phase;
 
@@ -53,16 +54,30 @@ pub struct Reached {
     pub machine: Machine,
 }
 
-// What a run answers: position count and loop start; or the cause, scan and process of a stop (0 where no process is to be named); or a refusal of what was given.
-#[derive(Clone, Copy)]
-pub enum Ran {
-    Closed(usize, usize),
+// A run that closes: how many positions its trace has, and where its loop starts.
+#[derive(Clone, Copy, Debug, PartialEq, Eq)]
+pub struct Closed {
+    pub positions: usize,
+    pub start: usize,
+}
+
+// Why a run does not close: the cause, the scan and the process of a stop (0 where no process is to be named); or a refusal of what was given.
+#[derive(Clone, Copy, Debug, PartialEq, Eq)]
+pub enum Stop {
     Halted(Cause, u16, u16),
-    Refused(Cause, usize),
+    Refused(Refusal),
+}
+
+impl From<Refusal> for Stop {
+    ghost from_gives = { λ why stop. stop ≡ Refused why };
+
+    fn from(why: Refusal) -> Stop {
+        Stop::Refused(why)
+    }
 }
 
 // Runs a table's numbers over those of an inputs record.
-fn run_numbers(table: &[u16], inputs: &[u16], trace: &mut [u8]) -> Ran
+fn run_numbers(table: &[u16], inputs: &[u16], trace: &mut [u8]) -> Result<Closed, Stop>
     requires { trace_room ≤ length trace.old }
     ensures { (result ≡ ran_of table.now inputs.now) × (trace.new ≡ left_in result table.now inputs.now trace.old) }
 {
@@ -72,29 +87,25 @@ fn run_numbers(table: &[u16], inputs: &[u16], trace: &mut [u8]) -> Ran
 }
 
 // Reads the inputs record, then runs.
-fn run_table(table: &[u16], inputs: &[u8], trace: &mut [u8]) -> Ran
+fn run_table(table: &[u16], inputs: &[u8], trace: &mut [u8]) -> Result<Closed, Stop>
     requires { trace_room ≤ length trace.old }
     ensures { (result ≡ by_inputs table.now (numbers_in inputs.now) (inputs_grammar (inputs_of table.now) (code_at inputs.now 0)))
         × (trace.new ≡ left_in result table.now (numbers_in inputs.now) trace.old) }
 {
     let mut numbers = [0u16; INPUTS_NUMBERS];
-    match table::read_inputs(lookups::inputs(table), inputs, &mut numbers) {
-        Answer::Refused(cause, place) => Ran::Refused(cause, place),
-        Answer::Count(n) => run_numbers(table, &numbers[0..n], trace),
-    }
+    let n = table::read_inputs(lookups::inputs(table), inputs, &mut numbers)?;
+    run_numbers(table, &numbers[0..n], trace)
 }
 
 // Runs a table over recorded inputs, both as bytes, into a lent trace buffer.
-pub fn run(table: &[u8], inputs: &[u8], trace: &mut [u8]) -> Ran
+pub fn run(table: &[u8], inputs: &[u8], trace: &mut [u8]) -> Result<Closed, Stop>
     ensures { (result ≡ run_of (length trace.old) table.now inputs.now)
         × (trace.new ≡ left_in result (numbers_in table.now) (numbers_in inputs.now) trace.old) }
 {
     if trace.len() < TRACE_ROOM {
-        return Ran::Refused(Cause::ShortBuffer, TRACE_ROOM);
+        return Err(Stop::Refused(Cause::ShortBuffer.at(TRACE_ROOM)));
     }
     let mut numbers = [0u16; TABLE_NUMBERS];
-    match table::read_table(table, &mut numbers) {
-        Answer::Refused(cause, place) => Ran::Refused(cause, place),
-        Answer::Count(n) => run_table(&numbers[0..n], inputs, trace),
-    }
+    let n = table::read_table(table, &mut numbers)?;
+    run_table(&numbers[0..n], inputs, trace)
 }

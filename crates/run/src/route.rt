@@ -5,12 +5,12 @@ ghost use Rattle.ranges.specs.Limits.{most_processes};
 ghost use Rattle.lasso.specs.Bytes.{phase_number};
 ghost use Rattle.run.specs.Limits.{last_state};
 ghost use Rattle.run.specs.Moves.{begun};
-ghost use Rattle.run.specs.Running.{reached, turn_of, halted, closing, ran_of};
+ghost use Rattle.run.specs.Running.{reached, turn_of, stop_of, closing, ran_of};
 ghost use Rattle.run.specs.Trace.{path};
 ghost use Rattle.run.specs.Working.Walking.{Walked, cleared, cleared_by, Small};
 
 use crate::course::Course;
-use crate::{Machine, Ran, Reached};
+use crate::{Closed, Machine, Reached, Stop};
 use coding::Cause;
 use requirement::Phase;
 
@@ -85,44 +85,40 @@ fn turn_of(cause: Cause, m: Machine) -> u16
 }
 
 // What a stopped run answers.
-fn halted(cause: Cause, m: Machine) -> Ran
+fn halted(cause: Cause, m: Machine) -> Stop
     requires { m.scan < 65535 }
-    ensures { result ≡ halted cause m }
+    ensures { result ≡ stop_of cause m }
 {
-    let scan = m.scan;
-    Ran::Halted(cause, scan + 1, turn_of(cause, m))
+    Stop::Halted(cause, m.scan + 1, turn_of(cause, m))
 }
 
 // Whether the run closes.
-fn close(q: u16, back: Reached, last: Reached) -> Ran
+fn close(q: u16, back: Reached, last: Reached) -> Result<Closed, Stop>
     ensures { result ≡ closing q back last }
 {
-    let n = last.number;
-    let start = back.number;
-    let end = last.machine;
-    let first = back.machine;
-    let end_state = end.state;
-    let first_state = first.state;
-    if end_state.same_as(first_state) {
-        return Ran::Closed(n, start);
+    if last.machine.state.same_as(back.machine.state) {
+        return Ok(Closed {
+            positions: last.number,
+            start: back.number,
+        });
     }
-    Ran::Halted(Cause::NotClosed, q, 0)
+    Err(Stop::Halted(Cause::NotClosed, q, 0))
 }
 
 // The whole run. Where it closes, its trace stands in the buffer; behind that, and where it does not close, the buffer is yet to be cleared.
-pub fn walk(table: &[u16], inputs: &[u16], trace: &mut [u8]) -> Ran
+pub fn walk(table: &[u16], inputs: &[u16], trace: &mut [u8]) -> Result<Closed, Stop>
     ensures { (result ≡ ran_of table.now inputs.now) × Walked result table.now inputs.now trace.old trace.new }
 {
     let course = Course::new(table, inputs);
     let b = lookups::return_scan(course.inputs);
     let back = course.run_to(b, 0, begin(), trace);
     if let Some(cause) = back.stopped {
-        return halted(cause, back.machine);
+        return Err(halted(cause, back.machine));
     }
     let q = lookups::scans(course.inputs);
     let last = course.run_to(q, back.number, back.machine, trace);
     match last.stopped {
-        Some(cause) => halted(cause, last.machine),
+        Some(cause) => Err(halted(cause, last.machine)),
         None => close(q, back, last),
     }
 }
@@ -136,13 +132,13 @@ fn clear_from(at: usize, trace: &mut [u8])
 }
 
 // Clears what a run leaves to be cleared: behind the trace of a closed one, and everything of a stopped one.
-pub fn clear_rest(ran: Ran, trace: &mut [u8])
+pub fn clear_rest(ran: Result<Closed, Stop>, trace: &mut [u8])
     requires { Small ran }
     ensures { trace.new ≡ cleared_by ran trace.old }
 {
     match ran {
-        Ran::Closed(n, _) => clear_from(n * 5, trace),
-        Ran::Halted(_, _, _) => clear_from(0, trace),
-        Ran::Refused(_, _) => {}
+        Ok(closed) => clear_from(closed.positions * 5, trace),
+        Err(Stop::Halted(_, _, _)) => clear_from(0, trace),
+        Err(Stop::Refused(_)) => {}
     }
 }
