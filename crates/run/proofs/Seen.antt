@@ -4,12 +4,12 @@ use Prim.Native.Nat.{ℕ, zero, suc, ◌+◌, ◌-◌, ◌*◌, ◌≤◌, ◌<�
 use mathlib.Core.Path.{◌≡◌, refl, sym, ◌∙◌}
 use mathlib.Core.Logic.{⊎_elim, ◌≢◌}
 use mathlib.Core.Bool.{Bool, true, false}
-use mathlib.Core.List.{List, [], ◌∷◌, ◌++◌}
+use mathlib.Core.List.{List, [], ◌∷◌}
 use native.Mathlib.Omega.{arith}
 use native.Mathlib.Nat.{eq-or-lt_of_le}
 use mir.Val.{bool_byte}
-use lib.ListN.{length, get_or, set, length-set, length-append}
-use Rattle.std.proofs.lemmas.List.{get_or_append_left, get_or_default}
+use lib.ListN.{length, get_or, set, length-set}
+use Rattle.std.proofs.lemmas.List.{get_or_default}
 use lib.Seq.{get_or-set_same, get_or-set_other}
 use Rattle.bits.specs.Bits.{digit}
 use Rattle.controller.specs.State.{none, stop, value_at, state_at, states_of}
@@ -20,7 +20,7 @@ use Rattle.scan.specs.Guards.{atom_of}
 use Rattle.scan.specs.Position.{packed, atom_byte, atom_bytes}
 use Rattle.scan.proofs.Position.{packed_small}
 use lib.Pow.{pow_mono}
-use Rattle.run.specs.Working.Atoms.{Sees, LaidOut, laid_atom}
+use Rattle.run.specs.Working.Atoms.{Sees, SeesValues, LaidOut, laid_atom}
 use Rattle.run.specs.declared.laid.Laid.{Laid}
 
 -- one more of what is put into a list, each at its own place
@@ -31,6 +31,28 @@ put_more r place n y g h apart e held x k =
     (λ (q : x ≡ n). rw q (get_or-set_same r (place n) y 0 h ∙ e))
     (λ (l : x < n). get_or-set_other r (place n) (place x) y 0 (apart x l) ∙ held x l)
     (eq-or-lt_of_le (omega arith))
+
+-- ---- the values
+pub record ValuesTo (n : ℕ) (v s r : List ℕ) : Type 0 where
+  pub few : n ≤ 32
+  pub size : length r ≡ length s
+  pub value : (x : ℕ) → x < n → get_or r x 0 ≡ value_at v x
+
+module _ (v s : List ℕ) where
+  pub value_more : (n : ℕ) (r : List ℕ) → length s ≡ 42 → length v ≡ 32 → n < 32 → ValuesTo n v s r → ValuesTo (n + 1) v s (set r n (get_or v n 0))
+  unfolding value_at
+  value_more n r room e h held =
+      let size = held.size in
+      record {
+        few = omega arith;
+        size = length-set r n (get_or v n 0) ∙ size;
+        value = put_more r (λ x. x) n (get_or v n 0) (value_at v) (omega arith) (λ x l. omega arith) (get_or_default v n 0 none (omega arith)) held.value;
+      }
+
+  pub all_values : (n : ℕ) (r : List ℕ) → 32 ≤ n → ValuesTo n v s r → SeesValues v s r
+  all_values n r h held =
+      let few = held.few in
+      record { size = held.size; value = λ x k. held.value x (omega arith) }
 
 -- ---- the states, behind the values
 pub record StatesTo (n : ℕ) (f s r : List ℕ) : Type 0 where
@@ -51,15 +73,6 @@ module _ (f s : List ℕ) where
         value = λ x k. get_or-set_other r (32 + n) x (get_or f n 0) 0 (omega arith) ∙ held.value x k;
         state = put_more r (λ x. 32 + x) n (get_or f n 0) (λ i. state_at f (i + 1)) (omega arith) (λ x l. omega arith) (rw back refl) held.state;
       }
-
--- the values stand first
-module _ (v w rest : List ℕ) (same : w ≡ v) (e : length v ≡ 32) where
-  pub values_size : length rest ≡ 10 → length (w ++ rest) ≡ 42
-  values_size h = rw same (simp length-append (omega arith))
-
-  pub values_first : (x : ℕ) → x < 32 → get_or (w ++ rest) x 0 ≡ value_at v x
-  unfolding value_at
-  values_first x h = rw same (get_or_append_left v rest 0 x (omega arith) ∙ get_or_default v x 0 none (omega arith))
 
 -- and what is found where there is no variable and no process
 module _ (v f s r : List ℕ) (size : length s ≡ 42) (e : length v ≡ 32) (k : length f ≡ 8) (told : (x : ℕ) → x < 32 → get_or s x 0 ≡ value_at v x) where

@@ -1,6 +1,9 @@
 // A test as the run lays it out.
 ghost use Rattle.std.specs.Prelude.{◌<◌};
 
+// What tests see has so many places.
+pub const SEEN: usize = 42;
+
 // Where the test looks in what tests see, the number that it compares with, and whether the two are to be equal.
 #[derive(Clone, Copy)]
 pub struct Laid {
@@ -11,12 +14,11 @@ pub struct Laid {
 }
 
 impl Laid {
-    ghost use Rattle.std.specs.Prelude.{◌≡◌, length};
+    ghost use Rattle.std.specs.Prelude.{◌≡◌};
     ghost use Rattle.run.specs.Working.Atoms.{asked};
 
     // Whether the test holds of what is seen.
-    pub fn holds(self, seen: &[u32]) -> bool
-        requires { length seen.now ≡ 42 }
+    pub fn holds(self, seen: &[u32; SEEN]) -> bool
         ensures { result ≡ asked self seen.now }
     {
         controller::tests::compares(self.equal, self.number as u32, seen[self.place as usize])

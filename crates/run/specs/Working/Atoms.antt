@@ -28,6 +28,11 @@ pub record Sees (v f s : List ℕ) : Type 0 where
   pub unset : get_or s no_value 0 ≡ none
   pub stopped : get_or s stop_place 0 ≡ stop
 
+-- The values put first.
+pub record SeesValues (v s r : List ℕ) : Type 0 where
+  pub size : length r ≡ length s
+  pub value : (x : ℕ) → x < 32 → get_or r x 0 ≡ value_at v x
+
 -- Where a test looks: process a is counted from 1, and 0 is taken for 1.
 unfoldable pub process_place : ℕ → ℕ
 process_place i = pick (ltb 8 i) stop_place (first_state + (i - 1))

@@ -1,5 +1,5 @@
 use Prim.Native.Nat.{◌+◌, ◌-◌}
-use mathlib.Core.Path.{◌≡◌, refl, ◌∙◌}
+use mathlib.Core.Path.{◌≡◌, refl}
 use native.Mathlib.Omega.{arith}
 use Rattle.std.proofs.lemmas.List.{get_or_default}
 use Rattle.scan.specs.Position.{packed}
@@ -23,8 +23,8 @@ overflow_add-byte c =
 
 pub loop-k-preserved : goal.loop-k-preserved
 loop-k-preserved c =
-    let at = get_or_default c.args.laid.now (c.loop-k.k - 1) c.index-laid-k.result missing (omega (arith, c.requires.0)) in (
-      rw (c.loop-k.invariant.0, truth_digit, c.holds.ensures, c.index-laid-k.is ∙ at)
+    let at = get_or_default c.args.laid.now (c.loop-k.k - 1) c.index-laid-k.result missing (omega (arith, c.requires)) in (
+      rw (c.loop-k.invariant.0, truth_digit, c.holds.ensures, at)
           (byte_next (laid_atom c.args.laid.now c.args.seen.now) c.args.from c.loop-k.k (c.loop-k.k - 1) (omega arith) (omega arith) (omega arith)),
       omega arith,
     )
