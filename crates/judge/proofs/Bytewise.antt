@@ -1,4 +1,4 @@
--- Rows changed a byte at a time: what an operation does to bytes it does to bits; four bytes written as one number; and a row's bits counted.
+-- Rows changed a byte at a time: what an operation does to bytes it does to bits; two or four bytes written at once; and a row's bits counted.
 -- Assumes nothing.
 use Prim.Native.Nat.{ℕ, zero, suc, ◌+◌, ◌-◌, ◌*◌, ◌/◌, ◌%◌, ◌<◌, ◌≤◌}
 use native.Mathlib.Omega.{arith}
@@ -56,7 +56,14 @@ module _ (r : ℕ) (w x : List ℕ) (fits : r ≤ length w) (size : length x ≡
       let e = length-take-le r w fits in
       front_is x s p (omega arith) ∙ by_bits f (take r w) o x r (λ i m. h i (omega arith)) p l ∙ ap (λ b. f b (bit_at o p)) (taken_is r w p l)
 
--- Four bytes copied over those from i on are put there one by one.
+-- Two or four bytes copied over those from i on are put there one by one.
+pub put_two : (i : ℕ) (s : List ℕ) (a b : ℕ) → i + 2 ≤ length s → put_mid i 2 s (a ∷ b ∷ []) ≡ set (set s i a) (i + 1) b
+put_two zero [] a b h = absurd (omega arith)
+put_two zero (x ∷ []) a b h = absurd (omega arith)
+put_two zero (x ∷ y ∷ s) a b h = refl
+put_two (suc i) [] a b h = absurd (omega arith)
+put_two (suc i) (x ∷ s) a b h = rw (suc-add i 1) (ap (λ (t : List ℕ). x ∷ t) (put_two i s a b (omega arith)))
+
 pub put_four : (i : ℕ) (s : List ℕ) (a b c d : ℕ) → i + 4 ≤ length s → put_mid i 4 s (a ∷ b ∷ c ∷ d ∷ []) ≡ set (set (set (set s (i + 3) d) (i + 2) c) (i + 1) b) i a
 put_four zero [] a b c d h = absurd (omega arith)
 put_four zero (x ∷ []) a b c d h = absurd (omega arith)

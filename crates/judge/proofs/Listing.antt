@@ -20,6 +20,8 @@ use Rattle.bits.proofs.Bytes.{at_byte}
 use Rattle.bits.proofs.Counts.{count_add, count_same}
 use Rattle.judge.specs.Judging.{position_bytes}
 use Rattle.judge.specs.Working.{PutPosition, Listing}
+use Rattle.judge.proofs.Bytewise.{put_two}
+use borrow.Rule.Slice.PartMut.{put_mid}
 
 -- ---- the positions among k from i on
 module _ (b : ℕ → Bool) where
@@ -63,6 +65,11 @@ module _ (p at : ℕ) (d : List ℕ) where
   pub put_here : at + 1 < length d → PutPosition p d at (set (set d at (p % 256)) (at + 1) (p / 256)) (at + 2)
   unfolding over position_bytes
   put_here h = rw (lt-ltb (at + 1) (length d) h) (refl, rw (add-one at))
+
+  pub put_both : p < 65536 → at + 1 < length d → PutPosition p d at (put_mid at 2 d (p % 256 ∷ p / 256 % 256 ∷ [])) (at + 2)
+  put_both few h =
+      let high : p / 256 % 256 ≡ p / 256 = omega arith in
+      rw (high, put_two at d (p % 256) (p / 256) (omega arith)) (put_here h)
 
   pub put_nowhere : length d ≤ at + 1 → PutPosition p d at d at
   put_nowhere h = rw (le-ltb (at + 1) (length d) h) (refl, refl)

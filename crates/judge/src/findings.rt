@@ -1,6 +1,5 @@
 // The findings' row: the Input positions at which the requirement fails; counted, listed, and the work cleared.
-ghost use Rattle.std.specs.Prelude.{◌≡◌, false, not, ◌&&◌, ℕ, ◌+◌, ◌*◌, ◌≤◌, ◌<◌, length, replicate};
-ghost use Rattle.std.specs.Int.Count.{ones};
+ghost use Rattle.std.specs.Prelude.{◌≡◌, false, ℕ, ◌*◌, ◌≤◌, ◌<◌, length, replicate};
 ghost use Rattle.coding.specs.Room.{over};
 ghost use Rattle.bits.specs.Bits.{bit_at, count_b};
 ghost use Rattle.bits.specs.Rows.{row_of};
@@ -50,8 +49,7 @@ fn put_position(p: usize, list: &mut [u8], at: usize) -> usize
     ensures { PutPosition p list.old at list.new result }
 {
     if at + 1 < list.len() {
-        list[at] = (p % 256) as u8;
-        list[at + 1] = (p / 256) as u8;
+        list[at..at + 2].copy_from_slice(&(p as u16).to_le_bytes());
         return at + 2;
     }
     at
