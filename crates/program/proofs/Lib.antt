@@ -1,3 +1,3 @@
 pub mod Fronts
-pub mod Reading
 pub mod Unique
+pub mod Writing

@@ -23,22 +23,6 @@ pub struct Checked {
     pub written: bool,
 }
 
-// Reads until the buffer is full, the input ends or a read fails, and answers how many bytes stand at its front.
-fn read_full<R: Read>(reader: &mut R, input: &mut [u8]) -> usize
-    ensures fits { result ≤ length input.new }
-    ensures reads { Consumes (R.remaining reader.old) (R.remaining reader.new) (take result input.new) }
-{
-    let mut done = 0;
-    while done < input.len() {
-        match reader.read(&mut input[done..]) {
-            Ok(0) => return done,
-            Ok(n) => done += n,
-            Err(_) => return done,
-        }
-    }
-    done
-}
-
 // Reports on the first `read` bytes of `input`, into `output`.
 fn report_front(input: &[u8], read: usize, output: &mut [u8]) -> usize
     requires { read ≤ length input.now }
@@ -48,15 +32,15 @@ fn report_front(input: &[u8], read: usize, output: &mut [u8]) -> usize
 }
 
 // Writes bytes until all are written, or stops at the first write that takes nothing or fails, and answers whether all
-// were.
+// were. (The library's `write_all` says nothing of what a failed writer got.)
 fn write_full<W: Write>(writer: &mut W, bytes: &[u8]) -> bool
     ensures { WritesFront result bytes.now (W.contents writer.old) (W.contents writer.new) }
 {
-    let mut done = 0;
-    while done < bytes.len() {
-        match writer.write(&bytes[done..]) {
+    let mut rest = bytes;
+    while !rest.is_empty() {
+        match writer.write(rest) {
             Ok(0) => return false,
-            Ok(n) => done += n,
+            Ok(n) => rest = &rest[n..],
             Err(_) => return false,
         }
     }
@@ -95,7 +79,7 @@ pub fn check_input<R: Read, W: Write>(
     ensures writes { WritesFront result.written (take result.length output.new)
         (W.contents writer.old) (W.contents writer.new) }
 {
-    let read = read_full(reader, input);
+    let read = records::read_full(reader, input);
     let length = report_front(input, read, output);
     let written = write_text(writer, input, read, output, length);
     Checked {

@@ -1,7 +1,6 @@
 pub mod Splitting
 pub mod Putting
 pub mod Digits
-pub mod Listing
 pub mod Few
 pub mod Answering
 pub mod Enough
@@ -12,3 +11,4 @@ pub mod Unique
 pub mod Front
 pub mod Bench
 pub mod Right
+pub mod Listing

@@ -6,13 +6,14 @@
 // first; a lookup's are the name and then the sheet.
 #![tactic(auto)]
 
+mod code;
 mod text;
 
 ghost use Rattle.std.specs.Prelude.{◌≤◌};
 
-use coding::{Answer, Number};
-use requirement::{Checked, Kind};
-use sheet::Found;
+use code::Code;
+use records::{Record, Unread};
+use requirement::Kind;
 use std::io;
 use std::io::Write;
 use text::ROOM;
@@ -20,186 +21,126 @@ use text::ROOM;
 // No more of the input is read.
 const INPUT_ROOM: usize = 256000;
 
-// A code that is read or written; an inputs record takes the input count along.
+// A record.
 #[derive(Clone, Copy)]
-enum Code {
-    Requirement(Kind),
-    Table,
-    Inputs(u16),
+struct Asked<'a> {
+    command: u8,
+    with: u16,
+    room: u16,
+    data: &'a [u8],
 }
 
-fn cut(room: usize) -> usize
+impl Asked<'_> {
+    // How much of a buffer is lent.
+    fn lent(&self) -> usize
+        ensures { result ≤ 8000 }
+    {
+        usize::from(self.room).min(ROOM)
+    }
+
+    // The code that the command reads or writes: in either row of commands the four come in this order.
+    fn code(&self) -> Code {
+        match self.command % 4 {
+            0 => Code::Requirement(Kind::Untranslated),
+            1 => Code::Requirement(Kind::Translated),
+            2 => Code::Table,
+            _ => Code::Inputs(self.with),
+        }
+    }
+
+    fn read_number<W: Write>(&self, out: &mut W) -> io::Result<()> {
+        let at = usize::from(self.with);
+        write!(out, "read number at {at}")?;
+        text::say_number(out, coding::read_number(self.data, at))
+    }
+
+    fn write_number<W: Write>(&self, out: &mut W) -> io::Result<()> {
+        write!(out, "write number {}", self.with)?;
+        let lent = self.lent();
+        let mut buf = [165u8; ROOM];
+        let answer = coding::write_number(self.with, &mut buf[..lent]);
+        text::say_stored(out, answer, lent, &buf)
+    }
+
+    fn check<W: Write>(&self, out: &mut W, kind: Kind) -> io::Result<()> {
+        write!(out, "check {}", records::word_of(kind))?;
+        let none = [0u16; 1];
+        text::say_checked(out, requirement::check(kind, true, self.data, &none))
+    }
+
+    fn read<W: Write>(&self, out: &mut W) -> io::Result<()> {
+        let code = self.code();
+        write!(out, "read {code}")?;
+        let lent = self.lent();
+        let mut numbers = [165u16; ROOM];
+        let answer = code.read(self.data, &mut numbers[..lent]);
+        text::say_stored(out, answer, lent, &numbers)
+    }
+
+    fn write<W: Write>(&self, out: &mut W) -> io::Result<()> {
+        let code = self.code();
+        write!(out, "write {code}")?;
+        let lent = self.lent();
+        let mut numbers = [0u16; ROOM];
+        let count = unpack(self.data, &mut numbers);
+        let mut buf = [165u8; ROOM];
+        let answer = code.write(&numbers[..count], &mut buf[..lent]);
+        text::say_stored(out, answer, lent, &buf)
+    }
+
+    // The lookup by `find`, and the bytes that `body` returns. Nothing where there are too few data for the name.
+    fn look_up<W: Write>(&self, out: &mut W) -> io::Result<()> {
+        if let Some((name, sheet)) = self.data.split_at_checked(usize::from(self.with)) {
+            write!(out, "sheet, name of {}", name.len())?;
+            text::say_found(out, sheet::find(sheet, name))?;
+            text::say_body(out, sheet::body(sheet, name))?;
+        }
+        Ok(())
+    }
+}
+
+impl<'a> Record<'a> for Asked<'a> {
+    fn next(unread: &mut Unread<'a>) -> Option<Self> {
+        let command = unread.byte()?;
+        let with = unread.number()?;
+        let room = unread.number()?;
+        let size = unread.number()?;
+        let data = unread.bytes(usize::from(size))?;
+        Some(Asked {
+            command,
+            with,
+            room,
+            data,
+        })
+    }
+
+    fn obey<W: Write>(&self, out: &mut W) -> io::Result<()> {
+        match self.command {
+            0 => self.read_number(out),
+            1 => self.write_number(out),
+            2 => self.check(out, Kind::Untranslated),
+            3 => self.check(out, Kind::Translated),
+            4..=7 => self.read(out),
+            8..=11 => self.write(out),
+            12 => self.look_up(out),
+            _ => writeln!(out, "no such command"),
+        }
+    }
+}
+
+// The bytes as 16-bit numbers, low byte first, as far as the row goes. How many they are.
+fn unpack(bytes: &[u8], row: &mut [u16; ROOM]) -> usize
     ensures { result ≤ 8000 }
 {
-    if room < ROOM {
-        return room;
+    let (pairs, _) = bytes.as_chunks::<2>();
+    for (number, pair) in row.iter_mut().zip(pairs) {
+        *number = u16::from_le_bytes(*pair);
     }
-    ROOM
-}
-
-fn say_kind<W: Write>(out: &mut W, kind: Kind) -> io::Result<()> {
-    match kind {
-        Kind::Untranslated => text::say(out, b"requirement"),
-        Kind::Translated => text::say(out, b"translated"),
-    }
-}
-
-fn say_code<W: Write>(out: &mut W, code: Code) -> io::Result<()> {
-    match code {
-        Code::Requirement(kind) => say_kind(out, kind),
-        Code::Table => text::say(out, b"table"),
-        Code::Inputs(count) => text::say_number(out, b"inputs ", count as u64),
-    }
-}
-
-fn read_number<W: Write>(out: &mut W, bytes: &[u8], at: usize) -> io::Result<()> {
-    text::say_number(out, b"read number at ", at as u64)?;
-    match coding::read_number(bytes, at) {
-        Number::Fault(cause, place) => text::say_refused(out, cause, place)?,
-        Number::Value(v, next) => {
-            text::say_number(out, b": accepted ", v as u64)?;
-            text::say_number(out, b" next ", next as u64)?;
-        }
-    }
-    text::say(out, b"\n")
-}
-
-fn write_number<W: Write>(out: &mut W, v: u16, room: usize) -> io::Result<()> {
-    text::say_number(out, b"write number ", v as u64)?;
-    let lent = cut(room);
-    let mut buf = [165u8; ROOM];
-    let answer = coding::write_number(v, &mut buf[0..lent]);
-    text::say_stored_bytes(out, answer, lent, &buf)
-}
-
-fn check<W: Write>(out: &mut W, kind: Kind, bytes: &[u8]) -> io::Result<()> {
-    text::say(out, b"check ")?;
-    say_kind(out, kind)?;
-    let none = [0u16; 1];
-    match requirement::check(kind, true, bytes, &none) {
-        Checked::Refused(cause, place) => text::say_refused(out, cause, place)?,
-        Checked::Whole(nodes, depth) => {
-            text::say_number(out, b": nodes ", nodes as u64)?;
-            text::say_number(out, b" depth ", depth as u64)?;
-        }
-    }
-    text::say(out, b"\n")
-}
-
-fn read_into(code: Code, bytes: &[u8], out: &mut [u16]) -> Answer {
-    match code {
-        Code::Requirement(kind) => requirement::read(kind, bytes, out),
-        Code::Table => table::read_table(bytes, out),
-        Code::Inputs(count) => table::read_inputs(count, bytes, out),
-    }
-}
-
-fn read<W: Write>(out: &mut W, code: Code, room: usize, bytes: &[u8]) -> io::Result<()> {
-    text::say(out, b"read ")?;
-    say_code(out, code)?;
-    let lent = cut(room);
-    let mut numbers = [165u16; ROOM];
-    let answer = read_into(code, bytes, &mut numbers[0..lent]);
-    text::say_stored(out, answer, lent, &numbers)
-}
-
-fn write_into(code: Code, numbers: &[u16], buf: &mut [u8]) -> Answer {
-    match code {
-        Code::Requirement(kind) => requirement::write(kind, numbers, buf),
-        Code::Table => table::write_table(numbers, buf),
-        Code::Inputs(count) => table::write_inputs(count, numbers, buf),
-    }
-}
-
-fn write<W: Write>(out: &mut W, code: Code, room: usize, data: &[u8]) -> io::Result<()> {
-    text::say(out, b"write ")?;
-    say_code(out, code)?;
-    let lent = cut(room);
-    let count = cut(data.len() / 2);
-    let mut numbers = [0u16; ROOM];
-    text::unpack(true, data, &mut numbers);
-    let mut buf = [165u8; ROOM];
-    let answer = write_into(code, &numbers[0..count], &mut buf[0..lent]);
-    text::say_stored_bytes(out, answer, lent, &buf)
-}
-
-// The lookup by `find`, and the bytes that `body` returns.
-fn look_up<W: Write>(out: &mut W, sheet: &[u8], name: &[u8]) -> io::Result<()> {
-    text::say_number(out, b"sheet, name of ", name.len() as u64)?;
-    match sheet::find(sheet, name) {
-        Found::Refused(cause, place) => text::say_refused(out, cause, place)?,
-        Found::Body(begin, end) => {
-            text::say_number(out, b": body from ", begin as u64)?;
-            text::say_number(out, b" to ", end as u64)?;
-        }
-    }
-    text::say_body(out, sheet::body(sheet, name))
-}
-
-fn look_up_in<W: Write>(out: &mut W, data: &[u8], length: usize) -> io::Result<()> {
-    if length <= data.len() {
-        look_up(out, &data[length..], &data[0..length])?;
-    }
-    Ok(())
-}
-
-// The code that a command reads or writes: in either row of commands the four come in this order.
-fn code_of(command: u8, with: u16) -> Code {
-    match command % 4 {
-        0 => Code::Requirement(Kind::Untranslated),
-        1 => Code::Requirement(Kind::Translated),
-        2 => Code::Table,
-        _ => Code::Inputs(with),
-    }
-}
-
-fn obey<W: Write>(out: &mut W, command: u8, with: u16, room: usize, data: &[u8]) -> io::Result<()> {
-    match command {
-        0 => read_number(out, data, with as usize),
-        1 => write_number(out, with, room),
-        2 => check(out, Kind::Untranslated, data),
-        3 => check(out, Kind::Translated, data),
-        4..=7 => read(out, code_of(command, with), room, data),
-        8..=11 => write(out, code_of(command, with), room, data),
-        12 => look_up_in(out, data, with as usize),
-        _ => text::say(out, b"no such command\n"),
-    }
-}
-
-// The record at a place. The place after it, or that place itself where there is no whole record.
-fn record<W: Write>(out: &mut W, input: &[u8], at: usize) -> io::Result<usize> {
-    if input.len() < at {
-        return Ok(at);
-    }
-    if input.len() - at < 7 {
-        return Ok(at);
-    }
-    let with = text::pair_at(input, at + 1);
-    let room = text::pair_at(input, at + 3);
-    let size = text::pair_at(input, at + 5) as usize;
-    let begin = at + 7;
-    if input.len() - begin < size {
-        return Ok(at);
-    }
-    let end = begin + size;
-    obey(out, input[at], with, room as usize, &input[begin..end])?;
-    Ok(end)
-}
-
-fn obey_all<W: Write>(out: &mut W, input: &[u8]) -> io::Result<()> {
-    let mut at: usize = 0;
-    while at < input.len() {
-        let next = record(out, input, at)?;
-        if next <= at {
-            return Ok(());
-        }
-        at = next;
-    }
-    Ok(())
+    pairs.len().min(ROOM)
 }
 
 fn main(rt: HostRuntime) -> io::Result<()> {
     let mut input = [0u8; INPUT_ROOM];
-    let read = text::read_full(&mut rt.stdin(), &mut input);
-    obey_all(&mut rt.stdout(), &input[..read])
+    let read = records::read_full(&mut rt.stdin(), &mut input);
+    records::obey_all::<Asked, _>(&input[..read], &mut rt.stdout())
 }

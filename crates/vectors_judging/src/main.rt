@@ -9,6 +9,7 @@ mod text;
 
 ghost use Rattle.std.specs.Prelude.{◌≤◌};
 
+use records::{Record, Unread, checksum};
 use requirement::Kind;
 use std::io;
 use std::io::Write;
@@ -17,143 +18,107 @@ use text::ROOM;
 // No more of the input is read.
 const INPUT_ROOM: usize = 256000;
 
-// The bytes of a record before its data.
-const HEAD: usize = 11;
-
-// The greatest loop start that a caller can tell.
-const HIGHEST: usize = 18446744073709551615;
-
-fn kind_of(command: u16) -> Kind {
-    if command == 1 {
-        return Kind::Translated;
-    }
-    Kind::Untranslated
+// A record.
+#[derive(Clone, Copy)]
+struct Asked<'a> {
+    command: u8,
+    start: u16,
+    work: u16,
+    list: u16,
+    code: &'a [u8],
+    trace: &'a [u8],
 }
 
-// The loop start that is told, or the one that is so much below the greatest.
-fn start_of(command: u16, told: u16) -> usize {
-    let start = told as usize;
-    if command == 2 {
-        return HIGHEST - start;
+impl Asked<'_> {
+    // Command 1 judges a translated requirement.
+    fn kind(&self) -> Kind {
+        if self.command == 1 {
+            Kind::Translated
+        } else {
+            Kind::Untranslated
+        }
     }
-    start
+
+    // The loop start that is told, or for command 2 the one that is so much below the greatest.
+    fn loop_start(&self) -> usize {
+        let told = usize::from(self.start);
+        if self.command == 2 {
+            usize::MAX - told
+        } else {
+            told
+        }
+    }
+
+    fn judge<W: Write>(&self, out: &mut W) -> io::Result<()> {
+        let kind = self.kind();
+        let start = self.loop_start();
+        let room = lent(self.work);
+        let places = lent(self.list);
+        let word = records::word_of(kind);
+        write!(out, "judge {word} loop {start} work {room} list {places}")?;
+        let mut work = [165u8; ROOM];
+        let mut list = [165u8; ROOM];
+        let answer = judge::judge(
+            kind,
+            self.code,
+            self.trace,
+            start,
+            &mut work[..room],
+            &mut list[..places],
+        );
+        text::say_judged(out, answer, &list)?;
+        writeln!(out, "; work {} list {}", checksum(&work), checksum(&list))
+    }
+
+    fn translate<W: Write>(&self, out: &mut W) -> io::Result<()> {
+        let room = lent(self.work);
+        write!(out, "translate room {room}")?;
+        let mut bytes = [165u8; ROOM];
+        let answer = translate::translate(self.code, &mut bytes[..room]);
+        text::say_translated(out, answer, &bytes)?;
+        writeln!(out, "; buffer {}", checksum(&bytes))
+    }
+}
+
+impl<'a> Record<'a> for Asked<'a> {
+    fn next(unread: &mut Unread<'a>) -> Option<Self> {
+        let command = unread.byte()?;
+        let start = unread.number()?;
+        let work = unread.number()?;
+        let list = unread.number()?;
+        let size = unread.number()?;
+        let length = unread.number()?;
+        let code = unread.bytes(usize::from(size))?;
+        let trace = unread.bytes(usize::from(length))?;
+        Some(Asked {
+            command,
+            start,
+            work,
+            list,
+            code,
+            trace,
+        })
+    }
+
+    // Command 3 translates, the others judge.
+    fn obey<W: Write>(&self, out: &mut W) -> io::Result<()> {
+        if self.command == 3 {
+            self.translate(out)
+        } else {
+            self.judge(out)
+        }
+    }
 }
 
 // How much of a buffer is lent.
 fn lent(room: u16) -> usize
     ensures { result ≤ 8192 }
 {
-    let asked = room as usize;
-    if asked < ROOM {
-        return asked;
-    }
-    ROOM
-}
-
-fn say_asked<W: Write>(
-    out: &mut W,
-    kind: Kind,
-    start: usize,
-    work: usize,
-    list: usize,
-) -> io::Result<()> {
-    text::say(out, b"judge ")?;
-    text::say_kind(out, kind)?;
-    text::say_number(out, b" loop ", start as u64)?;
-    text::say_number(out, b" work ", work as u64)?;
-    text::say_number(out, b" list ", list as u64)
-}
-
-fn judging<W: Write>(
-    out: &mut W,
-    command: u16,
-    head: &[u8],
-    code: &[u8],
-    trace: &[u8],
-) -> io::Result<()> {
-    let kind = kind_of(command);
-    let start = start_of(command, text::pair_at(head, 1));
-    let room = lent(text::pair_at(head, 3));
-    let places = lent(text::pair_at(head, 5));
-    say_asked(out, kind, start, room, places)?;
-    let mut work = [165u8; ROOM];
-    let mut list = [165u8; ROOM];
-    let answer = judge::judge(
-        kind,
-        code,
-        trace,
-        start,
-        &mut work[0..room],
-        &mut list[0..places],
-    );
-    text::say_judged(out, answer, &list)?;
-    text::say_buffer(out, b"; work ", &work)?;
-    text::say_buffer(out, b" list ", &list)?;
-    text::say(out, b"\n")
-}
-
-fn translating<W: Write>(out: &mut W, head: &[u8], code: &[u8]) -> io::Result<()> {
-    let room = lent(text::pair_at(head, 3));
-    text::say_number(out, b"translate room ", room as u64)?;
-    let mut bytes = [165u8; ROOM];
-    let answer = translate::translate(code, &mut bytes[0..room]);
-    text::say_translated(out, answer, &bytes)?;
-    text::say_buffer(out, b"; buffer ", &bytes)?;
-    text::say(out, b"\n")
-}
-
-// Command 3 translates, the others judge: 1 a translated requirement, 2 with a loop start that is far too high.
-fn obey<W: Write>(out: &mut W, head: &[u8], code: &[u8], trace: &[u8]) -> io::Result<()> {
-    let command = text::byte_at(head, 0);
-    if command == 3 {
-        translating(out, head, code)
-    } else {
-        judging(out, command, head, code, trace)
-    }
-}
-
-// The record at a place. The place after it, or that place itself where there is no whole record.
-fn record<W: Write>(out: &mut W, input: &[u8], at: usize) -> io::Result<usize> {
-    if input.len() < at {
-        return Ok(at);
-    }
-    if input.len() - at < HEAD {
-        return Ok(at);
-    }
-    let size = text::pair_at(input, at + 7) as usize;
-    let length = text::pair_at(input, at + 9) as usize;
-    let begin = at + HEAD;
-    if input.len() - begin < size {
-        return Ok(at);
-    }
-    let middle = begin + size;
-    if input.len() - middle < length {
-        return Ok(at);
-    }
-    let end = middle + length;
-    obey(
-        out,
-        &input[at..begin],
-        &input[begin..middle],
-        &input[middle..end],
-    )?;
-    Ok(end)
-}
-
-fn obey_all<W: Write>(out: &mut W, input: &[u8]) -> io::Result<()> {
-    let mut at: usize = 0;
-    while at < input.len() {
-        let next = record(out, input, at)?;
-        if next <= at {
-            return Ok(());
-        }
-        at = next;
-    }
-    Ok(())
+    usize::from(room).min(ROOM)
 }
 
 fn main(rt: HostRuntime) -> io::Result<()> {
     let mut input = [0u8; INPUT_ROOM];
-    let read = text::read_full(&mut rt.stdin(), &mut input);
-    obey_all(&mut rt.stdout(), &input[..read])
+    let read = records::read_full(&mut rt.stdin(), &mut input);
+    records::obey_all::<Asked, _>(&input[..read], &mut rt.stdout())
 }

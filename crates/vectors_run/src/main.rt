@@ -8,6 +8,7 @@ mod text;
 
 ghost use Rattle.std.specs.Prelude.{◌≤◌};
 
+use records::{Record, Unread, checksum};
 use std::io;
 use std::io::Write;
 use text::ROOM;
@@ -15,86 +16,62 @@ use text::ROOM;
 // No more of the input is read.
 const INPUT_ROOM: usize = 300000;
 
-// The bytes of a record before its data.
-const HEAD: usize = 7;
-
-// How much of the buffer is lent.
-fn lent(room: u16) -> usize
-    ensures { result ≤ 20500 }
-{
-    let asked = room as usize;
-    if asked < ROOM {
-        return asked;
-    }
-    ROOM
+// A record.
+#[derive(Clone, Copy)]
+struct Asked<'a> {
+    command: u8,
+    room: u16,
+    table: &'a [u8],
+    inputs: &'a [u8],
 }
 
-fn say_asked<W: Write>(out: &mut W, table: usize, inputs: usize, room: usize) -> io::Result<()> {
-    text::say_number(out, b"run table ", table as u64)?;
-    text::say_number(out, b" inputs ", inputs as u64)?;
-    text::say_number(out, b" room ", room as u64)
+impl Asked<'_> {
+    // How much of the buffer is lent.
+    fn lent(&self) -> usize
+        ensures { result ≤ 20500 }
+    {
+        usize::from(self.room).min(ROOM)
+    }
+
+    fn run<W: Write>(&self, out: &mut W) -> io::Result<()> {
+        let table = self.table.len();
+        let inputs = self.inputs.len();
+        let room = self.lent();
+        write!(out, "run table {table} inputs {inputs} room {room}")?;
+        let mut trace = [165u8; ROOM];
+        let answer = run::run(self.table, self.inputs, &mut trace[..room]);
+        text::say_ran(out, answer, &trace)?;
+        writeln!(out, "; buffer {}", checksum(&trace))
+    }
 }
 
-fn running<W: Write>(out: &mut W, head: &[u8], table: &[u8], inputs: &[u8]) -> io::Result<()> {
-    let room = lent(text::pair_at(head, 1));
-    say_asked(out, table.len(), inputs.len(), room)?;
-    let mut trace = [165u8; ROOM];
-    let answer = run::run(table, inputs, &mut trace[0..room]);
-    text::say_ran(out, answer, &trace)?;
-    text::say_buffer(out, b"; buffer ", &trace)?;
-    text::say(out, b"\n")
-}
+impl<'a> Record<'a> for Asked<'a> {
+    fn next(unread: &mut Unread<'a>) -> Option<Self> {
+        let command = unread.byte()?;
+        let room = unread.number()?;
+        let size = unread.number()?;
+        let length = unread.number()?;
+        let table = unread.bytes(usize::from(size))?;
+        let inputs = unread.bytes(usize::from(length))?;
+        Some(Asked {
+            command,
+            room,
+            table,
+            inputs,
+        })
+    }
 
-// Command 0 runs. There is no other.
-fn obey<W: Write>(out: &mut W, head: &[u8], table: &[u8], inputs: &[u8]) -> io::Result<()> {
-    if text::byte_at(head, 0) == 0 {
-        running(out, head, table, inputs)?;
-    }
-    Ok(())
-}
-
-// The record at a place. The place after it, or that place itself where there is no whole record.
-fn record<W: Write>(out: &mut W, input: &[u8], at: usize) -> io::Result<usize> {
-    if input.len() < at {
-        return Ok(at);
-    }
-    if input.len() - at < HEAD {
-        return Ok(at);
-    }
-    let size = text::pair_at(input, at + 3) as usize;
-    let length = text::pair_at(input, at + 5) as usize;
-    let begin = at + HEAD;
-    if input.len() - begin < size {
-        return Ok(at);
-    }
-    let middle = begin + size;
-    if input.len() - middle < length {
-        return Ok(at);
-    }
-    let end = middle + length;
-    obey(
-        out,
-        &input[at..begin],
-        &input[begin..middle],
-        &input[middle..end],
-    )?;
-    Ok(end)
-}
-
-fn obey_all<W: Write>(out: &mut W, input: &[u8]) -> io::Result<()> {
-    let mut at: usize = 0;
-    while at < input.len() {
-        let next = record(out, input, at)?;
-        if next <= at {
-            return Ok(());
+    // Command 0 runs. There is no other.
+    fn obey<W: Write>(&self, out: &mut W) -> io::Result<()> {
+        if self.command == 0 {
+            self.run(out)?;
         }
-        at = next;
+        Ok(())
     }
-    Ok(())
 }
 
 fn main(rt: HostRuntime) -> io::Result<()> {
     let mut input = [0u8; INPUT_ROOM];
-    let read = text::read_full(&mut rt.stdin(), &mut input);
-    obey_all(&mut rt.stdout(), &input[..read])
+    let read = records::read_full(&mut rt.stdin(), &mut input);
+    records::obey_all::<Asked, _>(&input[..read], &mut rt.stdout())
 }

@@ -1,7 +1,10 @@
-use Rattle.report.proofs.Putting.{answer_put}
+use Rattle.std.proofs.Common.{arith, rules}
+use Rattle.report.proofs.Putting.{four_puts}
 use Rattle.report.proofs.lines.put_answer.Goals as goal
 
 pub returns : goal.returns
 returns c =
-    answer_put _ _ _ _ c.put_positions-a.ensures _ _ _ c.put_verdict-b.ensures _ _ _
-    c.put_count-c.ensures _ c.requires _ _ _ c.put_findings.ensures
+    let all =
+    four_puts _ _ _ _ _ _ _ _ _ c.positions.ensures.puts c.verdict.ensures.puts c.count.ensures.puts
+    c.findings.ensures.puts in
+    ((all.place, search rules), omega arith)

@@ -1,8 +1,9 @@
-use Rattle.report.proofs.Putting.{refused_put}
+use Rattle.std.proofs.Common.{arith, rules}
+use Rattle.report.proofs.Putting.{refused_puts}
 use Rattle.report.proofs.lines.put_refused.Goals as goal
 
 pub returns : goal.returns
 returns c =
-    rw (← c.number_of-number.ensures)
-    (refused_put _ _ _ _ _ c.put_word-a.ensures _ _ c.put_number-b.ensures _ _ c.put_word-c.ensures
-    _ _ c.put_at_line.ensures)
+    let all =
+    refused_puts _ _ _ _ _ _ _ c.word.ensures c.number.ensures.puts c.word-2.ensures c.at_line.ensures.puts in
+    rw (← c.number_of.ensures) ((all.place, search rules), omega arith)

@@ -1,0 +1,3 @@
+pub mod Checksum
+pub mod Obeying
+pub mod Words

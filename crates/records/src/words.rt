@@ -1,0 +1,27 @@
+// What the programs print of a refusal and of a kind of requirement.
+ghost use Rattle.std.specs.Prelude.{◌≡◌, OnOk};
+ghost use Rattle.std.specs.Io.KnownBytes.{Appends};
+ghost use Rattle.coding.specs.Refusal.{number_of};
+ghost use Rattle.records.specs.Words.{refused, kind_word};
+
+use coding::Cause;
+use requirement::Kind;
+use std::io;
+use std::io::Write;
+
+// `: refused`, the cause's number, `at` and the place.
+pub fn say_refused<W: Write>(out: &mut W, cause: Cause, place: usize) -> io::Result<()>
+    ensures { OnOk result (Appends (W.contents out.old) (W.contents out.new) (refused (number_of cause) place)) }
+{
+    write!(out, ": refused {} at {place}", coding::number_of(cause))
+}
+
+// The word for a kind of requirement.
+pub fn word_of(kind: Kind) -> &'static str
+    ensures { result.now ≡ kind_word kind }
+{
+    match kind {
+        Kind::Untranslated => "requirement",
+        Kind::Translated => "translated",
+    }
+}

@@ -1,8 +1,0 @@
-use Rattle.std.proofs.Common.{◌-◌, ◌<◌, length}
-use Rattle.vectors_coding.proofs.text.checksum.Given as goal
-
-abbrev pub invariant-loop-i : goal.invariant-loop-i
-invariant-loop-i l = l.sum < 4294967291
-
-abbrev pub decreases-loop-i : goal.decreases-loop-i
-decreases-loop-i l = length l.row - l.i
