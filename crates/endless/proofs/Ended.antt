@@ -1,5 +1,6 @@
 -- What is known of a run that closed.
 -- Assumes nothing.
+use Rattle.run.proofs.Alike.{same_positions, same_start}
 use Prim.Native.Nat.{ℕ, ◌+◌, ◌-◌, ◌<◌, ◌≤◌}
 use native.Mathlib.Omega.{arith}
 use mathlib.Core.Path.{◌≡◌, refl}
@@ -70,7 +71,7 @@ met q n start back last e = go (same_state last.machine.state back.machine.state
     go false f = absurd (not_halted (rw f at e))
     go true f =
         let g : closes_at last.number back.number ≡ closes_at n start = rw f at e in
-        record { same = same_is_equal last.machine.state back.machine.state f; n_is = cc; start_is = cc }
+        record { same = same_is_equal last.machine.state back.machine.state f; n_is = same_positions g; start_is = same_start g }
 
 module _ (T I : List ℕ) where
   pub came_back : (to_return T I).stopped ≡ None → Came T I (return_of I) 0 last_state (to_return T I)

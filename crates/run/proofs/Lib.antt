@@ -8,3 +8,4 @@ pub mod Filled
 pub mod LaidOut
 pub mod Seen
 pub mod Causes
+pub mod Alike
