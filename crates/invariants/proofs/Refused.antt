@@ -267,13 +267,13 @@ module _ (T I : List ℕ) where
   not_both : {q j l : ℕ} {c : Cause} → Stops T I j c → (state_at T I j).scan < q → AfterScan T I q l → ⊥
   not_both {q} {j} {l} s early a = omega (arith, scans_rise T I l j (no_later s a.arises), a.done)
 
-  one_stop : {c d : Cause} {m n p q : ℕ} → StoppedBy T I c m p → StoppedBy T I d n q → Err (Halted c m p) ≡ Err (Halted d n q)
+  one_stop : {c d : Cause} {m n p q : ℕ} → StoppedBy T I c m p → StoppedBy T I d n q → ◌≡◌ {A = Ran} (Err (Halted c m p)) (Err (Halted d n q))
   one_stop {d = d} x y =
       let e = same_stop x.arises x.stops y.arises y.stops in
       let f = same_cause {d = d} x.stops (rw e y.stops) in
       rw (x.scan_is, x.process_is, y.scan_is, y.process_is, e, f) refl
 
-  one_difference : {c d : Cause} {m n p q : ℕ} → DiffersBy T I c m p → DiffersBy T I d n q → Err (Halted c m p) ≡ Err (Halted d n q)
+  one_difference : {c d : Cause} {m n p q : ℕ} → DiffersBy T I c m p → DiffersBy T I d n q → ◌≡◌ {A = Ran} (Err (Halted c m p)) (Err (Halted d n q))
   one_difference x y =
       rw (x.cause_is, x.scan_is, x.process_is, y.cause_is, y.scan_is, y.process_is) refl
 

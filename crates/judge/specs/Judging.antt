@@ -71,6 +71,9 @@ pub record Accepted (t : Trace) (f : Requirement) (work list work' list' : List 
 abbrev pub Judgement : Type 0
 Judgement = Result Verdict Refusal
 
+abbrev pub holds_with : Bool → ℕ → Judgement
+holds_with holds count = Ok (record { holds = holds; count = count })
+
 -- What is promised of a judging. "1 to 4 and 9 to 11 change no buffer."
 abbrev pub Judges : Checks → Trace → List ℕ → List ℕ → List ℕ → List ℕ → Judgement → Type 0
 Judges (stop cause place) t work list work' list' r = (r ≡ refused_at cause place) × (work' ≡ work) × (list' ≡ list)
