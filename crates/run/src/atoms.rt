@@ -13,8 +13,8 @@ use lookups::TestRow;
 // A table has at most so many tests, and a state so many atoms.
 pub const TESTS: usize = 32;
 
-// What tests see: first the variables, then the functional states of the processes, then what is found where there is no
-// such variable (no value) and where there is no such process (stop).
+// What tests see: first the variables, then the functional states of the processes, then what is found where there is
+// no such variable (no value) and where there is no such process (stop).
 const VARIABLES: usize = 32;
 
 const PROCESSES: u16 = 8;
