@@ -4,7 +4,6 @@ pub mod Closing
 pub mod Readings
 pub mod Unique
 pub mod Steps
-pub mod Filled
 pub mod LaidOut
 pub mod Seen
 pub mod Causes

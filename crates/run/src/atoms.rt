@@ -13,8 +13,8 @@ use lookups::TestRow;
 // A table has at most so many tests, and a state so many atoms.
 pub const TESTS: usize = 32;
 
-// What tests see: first the variables, then the functional states of the processes, then what is found where there is no
-// such variable (no value) and where there is no such process (stop).
+// What tests see: first the variables, then the functional states of the processes, then what is found where there is
+// no such variable (no value) and where there is no such process (stop).
 const VARIABLES: usize = 32;
 
 const PROCESSES: u16 = 8;
@@ -88,8 +88,8 @@ pub fn lay_out(table: &[u16]) -> [Laid; TESTS]
     laid
 }
 
-// The values of the variables as the first of what is seen. By `copy_from_slice`, which borrows the values, they are copied
-// once more on the way, and a run took three hundredths longer.
+// The values of the variables as the first of what is seen. By `copy_from_slice`, which borrows the values, they are
+// copied once more on the way, and a run took three hundredths longer.
 fn see_values(values: [u32; VARIABLES], seen: &mut [u32; SEEN])
     ensures { SeesValues values seen.old seen.new }
 {

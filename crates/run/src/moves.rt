@@ -71,7 +71,8 @@ impl Course<'_> {
         c.act(i, controller::action_of(row.op, row.x, row.y), next)
     }
 
-    // An action of the process whose turn it is. A turn that is too long is looked for before an action that has no rule.
+    // An action of the process whose turn it is. A turn that is too long is looked for before an action that has no
+    // rule.
     fn action_move(&self, m: Machine) -> Moved
         ensures { result ≡ action_move self.now.table.now m }
     {

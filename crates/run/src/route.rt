@@ -30,8 +30,8 @@ fn begin() -> Machine
 }
 
 impl Course<'_> {
-    // From state `from` on until k scans are done. It stays a `while`: a `for` over the numbers of the states would have
-    // to make one more move behind its last round, to see what stops the run there.
+    // From state `from` on until k scans are done. It stays a `while`: a `for` over the numbers of the states would
+    // have to make one more move behind its last round, to see what stops the run there.
     fn run_to(&self, k: u16, from: usize, machine: Machine, trace: &mut [u8]) -> Reached
         requires { from ≤ last_state }
         ensures { (result ≡ reached self.now.table.now self.now.inputs.now k (last_state - from) from machine)
