@@ -46,7 +46,7 @@ module _ (room n start : ℕ) (table inputs : List ℕ) (e : run_of room table i
       Judges (go f) (trace_of (trace_bytes (numbers_in table) (numbers_in inputs) n) start) work list work' list' answer →
       RightlyJudged table inputs f n work list work' list' answer
   right_when (Ok verdict) a = record {
-    verdict.holds = verdict.holds;
+    holds = verdict.holds;
     found = a.found;
     right = by_the_rules room n start table inputs e f verdict.holds a.found a.verdict a.findings;
     answered = ap (holds_with verdict.holds) a.counted;

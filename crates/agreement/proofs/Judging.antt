@@ -1,16 +1,17 @@
 -- Demand 3, of the briefing, which document 01 calls on under "How tight the promises are". What an accepted judging's list holds is said by judge's
 -- `Accepted`; here stands when a judging is accepted, and that a requirement and its translation get the same answer.
 -- Assumes nothing.
+use Rattle.judge.specs.declared.Verdict.{Verdict}
 use Prim.Native.Nat.{ℕ, ◌≤◌, ◌<◌}
 use native.Mathlib.Omega.{arith}
-use mathlib.Core.Path.{◌≡◌, refl}
+use mathlib.Core.Path.{◌≡◌, refl, ap}
 use mathlib.Core.Logic.Iff
 use mathlib.Core.Bool.{Bool, true, false}
 use mathlib.Core.List.{List}
 use lib.ListN.{length, replicate}
 use lib.Dec.{ltb}
 use borrow.Author.Tests.{le-ltb}
-use Rattle.std.specs.Prelude.{Ok}
+use Rattle.std.specs.Prelude.{Ok, Err}
 use Rattle.coding.specs.Number.{pick}
 use Rattle.coding.specs.Code.{code_at, bytes_of_all}
 use Rattle.coding.specs.declared.Cause.TheVariants.{ShortBuffer}
@@ -28,7 +29,7 @@ use Rattle.lasso.specs.Checking.{length_ok, check_trace}
 use Rattle.lasso.proofs.WellFormed.{accepted_is_well_formed, well_formed_is_accepted}
 use Rattle.translate.specs.Writing.{translated}
 use Rattle.translate.proofs.Agreement.{translation_is_read, same_verdicts, same_findings}
-use Rattle.judge.specs.Judging.{stop, go, work_asked, list_asked, checks_of, Accepted, Judges, holds_with}
+use Rattle.judge.specs.Judging.{stop, go, work_asked, list_asked, checks_of, Accepted, Judges, holds_with, Judgement}
 use Rattle.judge.proofs.Unique.{one_judging}
 use Rattle.agreement.specs.Alike.{Alike, first_written}
 
@@ -48,6 +49,16 @@ judged_within_limits kind f trace start work list fits ok phases well =
 
 -- ---- Demand 3: "The translation .. agrees with the requirement at every position, and so gives the same list." The count is that list's length: "A count
 -- not tied to the list falls by demand 3."
+-- of two verdicts that are answered alike
+verdict_or : Verdict → Judgement → Verdict
+verdict_or d (Ok verdict) = verdict
+verdict_or d (Err why) = d
+
+same_verdict : {h₁ h₂ : Bool} {c₁ c₂ : ℕ} → holds_with h₁ c₁ ≡ holds_with h₂ c₂ →
+    ◌≡◌ {A = Verdict} (record { holds = h₁; count = c₁ }) (record { holds = h₂; count = c₂ })
+unfolding verdict_or
+same_verdict {h₁} {h₂} {c₁} e = ap (verdict_or (record { holds = h₁; count = c₁ })) e
+
 module _ {t : Trace} (well : WellFormed t) (f : Requirement) {list work₂ after₂ list₂ : List ℕ} {h₂ : Bool} {c₂ : ℕ} where
   -- what is promised of judging the translation is, but for the work that is lent, what is promised of judging the requirement
   as_untranslated : (work : List ℕ) → Accepted t (translate f) work₂ list after₂ list₂ h₂ c₂ →
@@ -68,7 +79,7 @@ module _ {t : Trace} (well : WellFormed t) (f : Requirement) {list work₂ after
   alike {work₁} {after₁} {list₁} {h₁} {c₁} a b =
       let u = one_judging t work₁ list after₁ list₁ (replicate (length work₁) 0) list₂ (go f) (holds_with h₁ c₁) (holds_with h₂ c₂) a (as_untranslated work₁ b) in
       let e = u.0 in
-      record { verdict = cc; count = cc; list = u.2 }
+      record { verdict = ap (λ (v : Verdict). v.holds) (same_verdict e); count = ap (λ (v : Verdict). v.count) (same_verdict e); list = u.2 }
 
 -- an accepted judging of a code that was read is one of the requirement that was read
 judged_is : (kind : Kind) (s trace : List ℕ) (start room space n : ℕ) (f : Requirement) (work list work' list' : List ℕ) (h : Bool) (c : ℕ) →
