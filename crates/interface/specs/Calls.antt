@@ -1,15 +1,14 @@
 -- What each C function answers and what it leaves in a lent buffer, by the definitions of the crates below.
 -- Assumes nothing: these are definitions.
-use Rattle.std.specs.Prelude.{ℕ, ◌≡◌, Bool, true, false, List}
+use Rattle.std.specs.Prelude.{ℕ, ◌≡◌, Bool, true, false, List, Result, Ok, Err}
 use Rattle.coding.specs.Code.{Code, code_at, values, bytes_of_all}
-use Rattle.coding.specs.Refusal.{answer_told}
+use Rattle.coding.specs.Refusal.{answer_told, Answer, refusal}
+use Rattle.coding.specs.declared.Refusal.{Refusal}
 use Rattle.coding.specs.Room.{read_by, write_by, stored}
 use Rattle.coding.specs.declared.Told.{Told}
-use Rattle.coding.specs.declared.Answer.{Answer}
 use Rattle.requirement.specs.Reading.{parsed}
 use Rattle.meaning.specs.Trace.{Trace}
-use Rattle.judge.specs.Judging.{Checks, Judges, judged_told}
-use Rattle.judge.specs.declared.Judged.{Judged}
+use Rattle.judge.specs.Judging.{Checks, Judges, judged_told, Judgement}
 use Rattle.translate.specs.Writing.{translated, translation}
 use Rattle.requirement.specs.declared.Kind.{Kind}
 use Rattle.requirement.specs.declared.Kind.TheVariants.{Untranslated, Translated}
@@ -18,6 +17,11 @@ use Rattle.requirement.specs.declared.Kind.TheVariants.{Untranslated, Translated
 abbrev pub kind_of : Bool → Kind
 kind_of true = Translated
 kind_of false = Untranslated
+
+-- An answer in the paper's numbers, by what is told of an accepted one.
+abbrev pub told_by : {A : Type 0} → (A → Told) → Result A Refusal → Told
+told_by told (Ok x) = told x
+told_by told (Err why) = refusal why.cause why.place
 
 -- Reading and writing by a grammar: the answer in the paper's numbers, and the buffer.
 abbrev pub read_told : (Code → Answer) → List ℕ → List ℕ → Told
@@ -38,4 +42,4 @@ translate_leaves s out = stored (translated s out) out (translation (parsed Untr
 
 -- Judging: the answer in the paper's numbers is that of a judging as promised.
 abbrev pub JudgesTold : Checks → Trace → List ℕ → List ℕ → List ℕ → List ℕ → Told → Type 0
-JudgesTold checks t work list work' list' told = (r : Judged) × (told ≡ judged_told r) × Judges checks t work list work' list' r
+JudgesTold checks t work list work' list' told = (r : Judgement) × (told ≡ judged_told r) × Judges checks t work list work' list' r

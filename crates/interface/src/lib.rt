@@ -2,6 +2,7 @@
 #![tactic(auto)]
 
 ghost use Rattle.std.specs.Prelude.{◌≡◌, length};
+ghost use Rattle.coding.specs.declared.Told.{Told};
 ghost use Rattle.coding.specs.Number.{number_at, bytes_of};
 ghost use Rattle.coding.specs.Code.{code_at};
 ghost use Rattle.coding.specs.Refusal.{accepted, refusal, number_told, answer_told};
@@ -15,15 +16,71 @@ ghost use Rattle.bits.specs.Bits.{digit};
 ghost use Rattle.lasso.specs.Bytes.{trace_of};
 ghost use Rattle.judge.specs.Judging.{checks_of, judged_told};
 ghost use Rattle.run.specs.Trace.{numbers_in, run_of, left_in, ran_told};
-ghost use Rattle.interface.specs.Calls.{kind_of, read_told, read_leaves, write_told, write_leaves, translate_leaves, JudgesTold};
+ghost use Rattle.interface.specs.Calls.{kind_of, told_by, read_told, read_leaves, write_told, write_leaves, translate_leaves, JudgesTold};
 
-use coding::{Answer, Cause, Number, Told};
-use judge::Judged;
+use coding::{Number, Refusal, Told};
+use judge::Verdict;
 use requirement::{Checked, Kind};
-use run::Ran;
-use sheet::Found;
+use run::{Closed, Stop};
+use sheet::Span;
 
-fn tell(first: usize, second: usize) -> Told
+// What is told of an accepted answer: two numbers.
+trait Accepted: Copy {
+    ghost told: { Self → Told };
+
+    fn told(self) -> Told
+        ensures { result ≡ told self };
+}
+
+impl Accepted for Number {
+    ghost told = { λ number. accepted number.value number.next };
+
+    fn told(self) -> Told {
+        accept(self.value as usize, self.next)
+    }
+}
+
+impl Accepted for usize {
+    ghost told = { λ n. accepted n 0 };
+
+    fn told(self) -> Told {
+        accept(self, 0)
+    }
+}
+
+impl Accepted for Checked {
+    ghost told = { λ sizes. accepted sizes.nodes sizes.depth };
+
+    fn told(self) -> Told {
+        accept(self.nodes as usize, self.depth as usize)
+    }
+}
+
+impl Accepted for Span {
+    ghost told = { λ span. accepted span.begin span.end };
+
+    fn told(self) -> Told {
+        accept(self.begin, self.end)
+    }
+}
+
+impl Accepted for Closed {
+    ghost told = { λ closed. accepted closed.positions closed.start };
+
+    fn told(self) -> Told {
+        accept(self.positions, self.start)
+    }
+}
+
+impl Accepted for Verdict {
+    ghost told = { λ verdict. accepted (digit verdict.holds) verdict.count };
+
+    fn told(self) -> Told {
+        accept(self.holds as usize, self.count)
+    }
+}
+
+fn accept(first: usize, second: usize) -> Told
     ensures { result ≡ accepted first second }
 {
     Told {
@@ -33,77 +90,32 @@ fn tell(first: usize, second: usize) -> Told
     }
 }
 
-fn tell_refusal(cause: Cause, place: usize) -> Told
-    ensures { result ≡ refusal cause place }
+fn refuse(why: Refusal) -> Told
+    ensures { result ≡ refusal why.cause why.place }
 {
     Told {
-        refusal: coding::number_of(cause) as u64,
-        first: place as u64,
+        refusal: coding::number_of(why.cause) as u64,
+        first: why.place as u64,
         second: 0,
     }
 }
 
-fn tell_number(n: Number) -> Told
-    ensures { result ≡ number_told n }
+// An answer in the paper's numbers.
+fn tell<T: Accepted>(answer: Result<T, Refusal>) -> Told
+    ensures { result ≡ told_by T.told answer }
 {
-    match n {
-        Number::Value(v, next) => tell(v as usize, next),
-        Number::Fault(cause, place) => tell_refusal(cause, place),
+    match answer {
+        Ok(accepted) => accepted.told(),
+        Err(why) => refuse(why),
     }
 }
 
-fn tell_answer(a: Answer) -> Told
-    ensures { result ≡ answer_told a }
+fn tell_ran(ran: Result<Closed, Stop>) -> Told
+    ensures { result ≡ ran_told ran }
 {
-    match a {
-        Answer::Count(n) => tell(n, 0),
-        Answer::Refused(cause, place) => tell_refusal(cause, place),
-    }
-}
-
-fn tell_checked(c: Checked) -> Told
-    ensures { result ≡ checked_told c }
-{
-    match c {
-        Checked::Whole(nodes, depth) => tell(nodes as usize, depth as usize),
-        Checked::Refused(cause, place) => tell_refusal(cause, place),
-    }
-}
-
-fn tell_found(f: Found) -> Told
-    ensures { result ≡ found_told f }
-{
-    match f {
-        Found::Body(begin, end) => tell(begin, end),
-        Found::Refused(cause, place) => tell_refusal(cause, place),
-    }
-}
-
-fn one_if(holds: bool) -> usize
-    ensures { result ≡ digit holds }
-{
-    if holds {
-        return 1;
-    }
-    0
-}
-
-fn tell_ran(r: Ran) -> Told
-    ensures { result ≡ ran_told r }
-{
-    match r {
-        Ran::Closed(n, start) => tell(n, start),
-        Ran::Halted(cause, scan, _) => tell_refusal(cause, scan as usize),
-        Ran::Refused(cause, place) => tell_refusal(cause, place),
-    }
-}
-
-fn tell_judged(j: Judged) -> Told
-    ensures { result ≡ judged_told j }
-{
-    match j {
-        Judged::Verdict(holds, count) => tell(one_if(holds), count),
-        Judged::Refused(cause, place) => tell_refusal(cause, place),
+    match ran {
+        Ok(closed) => closed.told(),
+        Err(stop) => refuse(stop.told()),
     }
 }
 
@@ -121,7 +133,7 @@ fn kind_of(translated: bool) -> Kind
 pub extern "C" fn scancheck_read_number(code: &[u8], at: usize) -> Told
     ensures { result ≡ number_told (number_at code.now at) }
 {
-    tell_number(coding::read_number(code, at))
+    tell(coding::read_number(code, at))
 }
 
 // A number into the first bytes of a buffer: how many.
@@ -130,7 +142,7 @@ pub extern "C" fn scancheck_write_number(v: u16, buf: &mut [u8]) -> Told
     ensures answers { result ≡ answer_told (wrote_number v buf.old) }
     ensures leaves { buf.new ≡ stored (wrote_number v buf.old) buf.old (bytes_of v) }
 {
-    tell_answer(coding::write_number(v, buf))
+    tell(coding::write_number(v, buf))
 }
 
 // A requirement's bytes: how many nodes, and how deep.
@@ -138,8 +150,7 @@ pub extern "C" fn scancheck_write_number(v: u16, buf: &mut [u8]) -> Told
 pub extern "C" fn scancheck_check_requirement(translated: bool, code: &[u8]) -> Told
     ensures { result ≡ checked_told (checked (kind_of translated) (code_at code.now 0)) }
 {
-    let none = [0u16; 1];
-    tell_checked(requirement::check(kind_of(translated), true, code, &none))
+    tell(requirement::check(kind_of(translated), code))
 }
 
 // A requirement's bytes into numbers: how many.
@@ -148,7 +159,7 @@ pub extern "C" fn scancheck_read_requirement(translated: bool, code: &[u8], out:
     ensures answers { result ≡ read_told (grammar (kind_of translated)) code.now out.old }
     ensures leaves { out.new ≡ read_leaves (grammar (kind_of translated)) code.now out.old }
 {
-    tell_answer(requirement::read(kind_of(translated), code, out))
+    tell(requirement::read(kind_of(translated), code, out))
 }
 
 // A requirement's numbers into bytes: how many.
@@ -161,7 +172,7 @@ pub extern "C" fn scancheck_write_requirement(
     ensures answers { result ≡ write_told (grammar (kind_of translated)) numbers.now buf.old }
     ensures leaves { buf.new ≡ write_leaves (grammar (kind_of translated)) numbers.now buf.old }
 {
-    tell_answer(requirement::write(kind_of(translated), numbers, buf))
+    tell(requirement::write(kind_of(translated), numbers, buf))
 }
 
 // A table's bytes into numbers: how many.
@@ -170,7 +181,7 @@ pub extern "C" fn scancheck_read_table(code: &[u8], out: &mut [u16]) -> Told
     ensures answers { result ≡ read_told (table_grammar most_processes) code.now out.old }
     ensures leaves { out.new ≡ read_leaves (table_grammar most_processes) code.now out.old }
 {
-    tell_answer(table::read_table(code, out))
+    tell(table::read_table(code, out))
 }
 
 // A table's numbers into bytes: how many.
@@ -179,7 +190,7 @@ pub extern "C" fn scancheck_write_table(numbers: &[u16], buf: &mut [u8]) -> Told
     ensures answers { result ≡ write_told (table_grammar most_processes) numbers.now buf.old }
     ensures leaves { buf.new ≡ write_leaves (table_grammar most_processes) numbers.now buf.old }
 {
-    tell_answer(table::write_table(numbers, buf))
+    tell(table::write_table(numbers, buf))
 }
 
 // The bytes of an inputs record of so many input variables into numbers: how many.
@@ -188,7 +199,7 @@ pub extern "C" fn scancheck_read_inputs(inputs: u16, code: &[u8], out: &mut [u16
     ensures answers { result ≡ read_told (inputs_grammar inputs) code.now out.old }
     ensures leaves { out.new ≡ read_leaves (inputs_grammar inputs) code.now out.old }
 {
-    tell_answer(table::read_inputs(inputs, code, out))
+    tell(table::read_inputs(inputs, code, out))
 }
 
 // The numbers of an inputs record into bytes: how many.
@@ -197,7 +208,7 @@ pub extern "C" fn scancheck_write_inputs(inputs: u16, numbers: &[u16], buf: &mut
     ensures answers { result ≡ write_told (inputs_grammar inputs) numbers.now buf.old }
     ensures leaves { buf.new ≡ write_leaves (inputs_grammar inputs) numbers.now buf.old }
 {
-    tell_answer(table::write_inputs(inputs, numbers, buf))
+    tell(table::write_inputs(inputs, numbers, buf))
 }
 
 // A requirement's translation as its code: how many bytes.
@@ -206,7 +217,7 @@ pub extern "C" fn scancheck_translate(code: &[u8], out: &mut [u8]) -> Told
     ensures answers { result ≡ answer_told (translated code.now out.old) }
     ensures leaves { out.new ≡ translate_leaves code.now out.old }
 {
-    tell_answer(translate::translate(code, out))
+    tell(translate::translate(code, out))
 }
 
 // Runs a table over recorded inputs into a trace: how many positions, and where the loop starts.
@@ -232,7 +243,7 @@ pub extern "C" fn scancheck_judge(
     ensures { JudgesTold (checks_of (kind_of translated) code.now trace.now start (length work.old) (length list.old))
         (trace_of trace.now start) work.old list.old work.new list.new result }
 {
-    tell_judged(judge::judge(kind_of(translated), code, trace, start, work, list))
+    tell(judge::judge(kind_of(translated), code, trace, start, work, list))
 }
 
 // Where in a sheet the body of a name begins and ends.
@@ -240,5 +251,5 @@ pub extern "C" fn scancheck_judge(
 pub extern "C" fn scancheck_find(sheet: &[u8], name: &[u8]) -> Told
     ensures { result ≡ found_told (find_in sheet.now name.now) }
 {
-    tell_found(sheet::find(sheet, name))
+    tell(sheet::find(sheet, name))
 }

@@ -1,5 +1,8 @@
 -- What the program's functions print, by the ways through them.
 -- Assumes nothing.
+use Rattle.run.specs.declared.Stop.{Stop}
+use Rattle.coding.specs.declared.Refusal.{Refusal}
+use Rattle.coding.proofs.Refusing.{same_cause, same_place}
 use Prim.Native.Nat.{ℕ, ◌+◌, ◌-◌, ◌*◌, ◌≤◌}
 use native.Mathlib.Omega.{arith}
 use mathlib.Core.Path.{◌≡◌, sym, ◌∙◌, ap}
@@ -8,7 +11,7 @@ use mathlib.Core.List.{List, ◌++◌}
 use lib.ListN.{length, take, drop, replicate, length-replicate}
 use lib.Seq.{take-append_seam}
 use Rattle.std.specs.Prelude.{Err}
-use Rattle.run.specs.declared.Stop.TheVariants.{Halted}
+use Rattle.run.specs.declared.Stop.TheVariants.{Halted, Refused}
 use Rattle.run.specs.Running.{Ran, closes_at, run_refused}
 use Rattle.coding.specs.Refusal.{number_of, refused_at}
 use Rattle.coding.specs.Room.{over}
@@ -17,14 +20,13 @@ use Rattle.coding.proofs.Bytes.{over_eq, over_length}
 use Rattle.requirement.specs.declared.Kind.TheVariants.{Untranslated}
 use Rattle.lasso.specs.Bytes.{trace_of}
 use Rattle.judge.specs.Judging.{Checks, stop, go, checks_of, Judges, position_bytes, Judgement, holds_with}
-use Rattle.run.specs.Trace.{trace_bytes, numbers_in, run_of, left_in}
+use Rattle.run.specs.Trace.{trace_bytes, numbers_in, run_of, left_in, stop_told}
 use Rattle.endless.proofs.Sized.{trace_length, closed_small}
-use Rattle.report.specs.Framing.{framing_of, between}
+use Rattle.report.specs.Framing.{framing_of, between, blocks_from}
 use Rattle.report.specs.Lines.{refused_line, positions_line, verdict_line, count_line, at_lines, answer_lines}
 use Rattle.report.specs.Placing.{Put, pairs_from}
 use Rattle.report.specs.Printing.{Prints}
 use Rattle.report.specs.Reporting.{work_room, list_room, OfJudging, OfBlocks, Reports}
-use Rattle.report.specs.declared.framing.Framed.TheVariants.{Blocks, Faulty}
 use Rattle.report.proofs.Few.{Small, small, findings_few, pairs_back}
 
 pub printed : (P : List ℕ → Type 0) (text : List ℕ) (r : ℕ) (d e : List ℕ) → P text → Put text 0 r d e × (r ≤ 100000) → Prints P r d e
@@ -69,7 +71,7 @@ module _ (code trace work list work' list' : List ℕ) (start : ℕ) (r : Judgem
   refusal_text : (n : ℕ) (cause : Cause) (place : ℕ) (c : Checks) → Judges c (trace_of trace start) work list work' list' (refused_at cause place) →
       OfJudging c (trace_of trace start) n start (refused_line (number_of cause) place)
   refusal_text n cause place (go f) j = absurd j
-  refusal_text n cause place (stop cause' place') (e, _, _) = let f : cause ≡ cause' = cc in let g : place ≡ place' = cc in rw (f, g)
+  refusal_text n cause place (stop cause' place') (e, _, _) = rw (same_cause e, same_place e)
 
   pub refusal_prints : (n : ℕ) (cause : Cause) (place : ℕ) → r ≡ refused_at cause place → (s : ℕ) (d e : List ℕ) → Put (refused_line (number_of cause) place) 0 s d e × (s ≤ 100000) →
       Prints (OfJudging (checks_of Untranslated code trace start work_room list_room) (trace_of trace start) n start) s d e
@@ -121,13 +123,18 @@ module _ (table inputs code trace trace' : List ℕ) (r : Ran) (l : length trace
       Prints (OfBlocks table inputs code) s d e
   refused_prints cause place e s d d' p = printed _ (refused_line (number_of cause) place) s d d' (rw (by_ran (run_refused cause place) e)) p
 
+  pub stop_prints : (stop : Stop) → r ≡ Err stop → (why : Refusal) → why ≡ stop_told stop → (s : ℕ) (d e : List ℕ) →
+      Put (refused_line (number_of why.cause) why.place) 0 s d e × (s ≤ 100000) → Prints (OfBlocks table inputs code) s d e
+  stop_prints (Halted cause scan process) e why w s d d' p = halted_prints cause scan process e s d d' (rw w at p)
+  stop_prints (Refused why') e why w s d d' p = refused_prints why'.cause why'.place e s d d' (rw w at p)
+
 -- ---- the whole answer
 module _ (s : List ℕ) where
-  pub faulty_prints : (cause : Cause) (place : ℕ) → Faulty cause place ≡ framing_of s → (r : ℕ) (d e : List ℕ) → Put (refused_line (number_of cause) place) 0 r d e × (r ≤ 100000) →
+  pub faulty_prints : (cause : Cause) (place : ℕ) → refused_at cause place ≡ framing_of s → (r : ℕ) (d e : List ℕ) → Put (refused_line (number_of cause) place) 0 r d e × (r ≤ 100000) →
       Prints (Reports s (framing_of s)) r d e
   faulty_prints cause place h r d e p = printed _ (refused_line (number_of cause) place) r d e (rw (← h)) p
 
-  pub blocks_print : (a b c d e f : ℕ) → Blocks a b c d e f ≡ framing_of s → (r : ℕ) (x y : List ℕ) →
+  pub blocks_print : (a b c d e f : ℕ) → blocks_from a b c d e f ≡ framing_of s → (r : ℕ) (x y : List ℕ) →
       Prints (OfBlocks (take (b - a) (drop a s)) (take (d - c) (drop c s)) (take (f - e) (drop e s))) r x y → Prints (Reports s (framing_of s)) r x y
   unfolding between
   blocks_print a b c d e f h r x y p = rw (← h) p

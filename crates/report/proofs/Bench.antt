@@ -18,13 +18,12 @@ use Rattle.marked.specs.Marked.{bench_bytes, answered}
 use Rattle.marked.proofs.Cases.{shown, verdict_shown}
 use Rattle.endless.specs.Bench.{bench_table, bench_inputs}
 use Rattle.endless.proofs.Bench.{bench_run}
-use Rattle.report.specs.Framing.{block_at, framing_of, between}
+use Rattle.report.specs.Framing.{block_at, framing_of, between, blocks_from}
 use Rattle.report.specs.Lines.{digits, at_line, positions_line, count_line, at_lines, answer_lines}
 use Rattle.report.specs.Reporting.{Reports, work_room, list_room}
 use Rattle.report.specs.Bench.{bench_requirement, bench_input, bench_text}
-use Rattle.report.specs.declared.framing.Framed.TheVariants.{Blocks}
 
-framed : framing_of bench_input ≡ Blocks 1 21 22 27 28 35
+framed : framing_of bench_input ≡ blocks_from 1 21 22 27 28 35
 unfolding framing_of block_at number_at
 framed = refl
 

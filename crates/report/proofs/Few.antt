@@ -6,10 +6,10 @@ use mathlib.Core.Path.{◌≡◌, refl, sym, ◌∙◌, ap}
 use mathlib.Core.List.{List, [], ◌∷◌, ◌++◌, Memᴰ}
 use lib.ListN.{length, get_or, drop}
 use lib.Seq.{get_or-drop, drop-drop}
+use Rattle.coding.specs.Refusal.{Answer}
+use Rattle.std.specs.Prelude.{Ok, Err}
 use Rattle.coding.specs.Code.{code_at}
 use Rattle.coding.specs.Room.{over}
-use Rattle.coding.specs.declared.Answer.{Answer}
-use Rattle.coding.specs.declared.Answer.TheVariants.{Count, Refused}
 use Rattle.coding.proofs.Bytes.{over_eq}
 use Rattle.requirement.specs.Requirement.{Requirement}
 use Rattle.requirement.specs.Reading.{Parsed, whole, unread, parsed}
@@ -43,8 +43,8 @@ module _ (trace : List ℕ) where
 
   module _ (start : ℕ) where
     by_trace_lem : (a : Answer) (c : Checks) → check_trace trace start ≡ a → Small trace (by_trace a c)
-    by_trace_lem (Refused cause place) c e = tt
-    by_trace_lem (Count n) c e = let l = accepted_is_well_formed trace start n e in any_small (omega (arith, l.count, l.most)) c
+    by_trace_lem (Err why) c e = tt
+    by_trace_lem (Ok n) c e = let l = accepted_is_well_formed trace start n e in any_small (omega (arith, l.count, l.most)) c
 
     by_parsed : (work list : ℕ) (x : Parsed) → Small trace (by_requirement trace start work list x)
     by_parsed work list (unread cause place) = tt

@@ -11,16 +11,13 @@ use lib.ListN.{length, get_or, take, drop, length-append, length-drop, take-appe
 use lib.Seq.{drop-append_seam, take-append_seam, drop-drop, get_or-drop, length-take-le}
 use lib.Dec.{ltb}
 use borrow.Author.Tests.{ltb-false}
+use Rattle.coding.specs.Refusal.{value_then, refused_at}
+use Rattle.std.specs.Prelude.{Ok, Err}
 use Rattle.coding.specs.Number.{pick, bytes_of, first, Begin, number, none, placed, number_at}
 use Rattle.coding.specs.declared.Cause.TheVariants.{CutShort, LeftOver}
-use Rattle.coding.specs.declared.Number.TheVariants.{Value}
 use Rattle.coding.proofs.Trip.{read_written, written_read, Begins}
-use Rattle.report.proofs.Splitting.{block_by, whole_block, all_blocks, by_third, by_second}
-use Rattle.report.specs.Framing.{longest_input, block_at, with_third, with_second, with_first, framing_of, between}
-use Rattle.report.specs.declared.framing.Block.{Block}
-use Rattle.report.specs.declared.framing.Block.TheVariants.{Found, Missing}
-use Rattle.report.specs.declared.framing.Framed.{Framed}
-use Rattle.report.specs.declared.framing.Framed.TheVariants.{Blocks, Faulty}
+use Rattle.report.proofs.Splitting.{block_by, whole_block, all_blocks, by_third, by_second, short_input}
+use Rattle.report.specs.Framing.{longest_input, block_at, with_third, with_second, with_first, framing_of, between, BlockAt, Framing, block_from, blocks_from}
 use Rattle.report.specs.MadeUp.{block_bytes, blocks_bytes, MadeUp, Names}
 
 -- ---- a block that was put there is found, and is what is cut out
@@ -45,11 +42,11 @@ module _ (s front b behind : List ℕ) (at : ℕ) (e : s ≡ front ++ (block_byt
   room_left : length b ≤ length s - (at + size_of b)
   room_left = omega (arith, sym (length-drop (at + size_of b) s) ∙ ap length behind_length ∙ length-append b behind)
 
-  length_there : length b < 65536 → Value (length b) (at + size_of b) ≡ number_at s at
+  length_there : length b < 65536 → value_then (length b) (at + size_of b) ≡ number_at s at
   unfolding number_at
   length_there small = rw (from_block, read_written (length b) (b ++ behind) small)
 
-  block_found : length b < 65536 → Found (at + size_of b) (at + length (block_bytes b)) ≡ block_at s at
+  block_found : length b < 65536 → block_from (at + size_of b) (at + length (block_bytes b)) ≡ block_at s at
   block_found small =
       let sum : at + length (block_bytes b) ≡ at + size_of b + length b = omega (arith, block_length b) in
       rw sum (whole_block s at (length b) (at + size_of b) (length_there small) room_left)
@@ -98,9 +95,9 @@ module _ (s table inputs requirement : List ℕ) (m : MadeUp s table inputs requ
   small = omega (arith, m.most, all_there, block_length table, block_length inputs, block_length requirement)
 
   made_up_framed :
-      Blocks (0 + size_of table) second (second + size_of inputs) third (third + size_of requirement) whole ≡ framing_of s
+      blocks_from (0 + size_of table) second (second + size_of inputs) third (third + size_of requirement) whole ≡ framing_of s
   made_up_framed =
-      by_second s m.most (0 + size_of table) second _
+      by_second s (0 + size_of table) second _
       (block_found s [] table (block_bytes inputs ++ block_bytes requirement) 0 first_there refl small.0)
       (by_third s (0 + size_of table) second (block_at s second) (second + size_of inputs) third _
       (block_found s (block_bytes table) inputs (block_bytes requirement) second second_there (omega arith) small.1)
@@ -108,6 +105,7 @@ module _ (s table inputs requirement : List ℕ) (m : MadeUp s table inputs requ
       (third + size_of requirement) whole
       (block_found s (block_bytes table ++ block_bytes inputs) requirement [] third third_there third_place small.2)
       (omega (arith, all_there))))
+      ∙ short_input s m.most
 
   pub made_up_named : Names s (framing_of s) table inputs requirement
   made_up_named =
@@ -119,13 +117,13 @@ module _ (s table inputs requirement : List ℕ) (m : MadeUp s table inputs requ
 
 -- ---- and what is framed is made up of the blocks that are named
 -- A block that is found at a place is cut out of what stands there, with its length in front and the rest behind.
-abbrev Taking : List ℕ → ℕ → Block → Type 0
-Taking s at (Found a b) = drop at s ≡ block_bytes (between a b s) ++ drop b s
-Taking s at (Missing cause place) = Unit {0}
+abbrev Taking : List ℕ → ℕ → BlockAt → Type 0
+Taking s at (Ok block) = drop at s ≡ block_bytes (between block.begin block.end s) ++ drop block.end s
+Taking s at (Err why) = Unit {0}
 
-abbrev MadeUpOf : List ℕ → Framed → Type 0
-MadeUpOf s (Blocks a b c d e f) = MadeUp s (between a b s) (between c d s) (between e f s)
-MadeUpOf s (Faulty cause place) = Unit {0}
+abbrev MadeUpOf : List ℕ → Framing → Type 0
+MadeUpOf s (Ok blocks) = MadeUp s (between blocks.table.begin blocks.table.end s) (between blocks.inputs.begin blocks.inputs.end s) (between blocks.requirement.begin blocks.requirement.end s)
+MadeUpOf s (Err why) = Unit {0}
 
 whole_cut : (n : ℕ) (x : List ℕ) → n ≤ length x → bytes_of n ++ x ≡ block_bytes (take n x) ++ drop n x
 unfolding block_bytes
@@ -153,7 +151,7 @@ module _ (s : List ℕ) (bytes : (i : ℕ) → get_or s i 0 < 256) where
   taking at = go (first (drop at s)) (written_read (drop at s) (λ i. rw get_or-drop (bytes (at + i))))
     where
       sized : (n k : ℕ) (t : Bool) → ltb (length s - (at + k)) n ≡ t → drop at s ≡ bytes_of n ++ drop k (drop at s) →
-          Taking s at (pick t (Missing CutShort at) (Found (at + k) (at + k + n)))
+          Taking s at (pick t (refused_at CutShort at) (block_from (at + k) (at + k + n)))
       sized n k true f e = tt
       sized n k false f e = cut_whole at n k (ltb-false _ _ f) e
 
@@ -163,33 +161,33 @@ module _ (s : List ℕ) (bytes : (i : ℕ) → get_or s i 0 < 256) where
 
   module _ (most : length s ≤ 60000) where
     third_made_up : (a b c d : ℕ) → drop 0 s ≡ block_bytes (between a b s) ++ drop b s →
-        drop b s ≡ block_bytes (between c d s) ++ drop d s → (x : Block) → Taking s d x →
+        drop b s ≡ block_bytes (between c d s) ++ drop d s → (x : BlockAt) → Taking s d x →
         MadeUpOf s (with_third s a b c d x)
-    third_made_up a b c d p q (Missing cause place) r = tt
-    third_made_up a b c d p q (Found e f) r = go (ltb f (length s)) refl
+    third_made_up a b c d p q (Err why) r = tt
+    third_made_up a b c d p q (Ok block) r = go (ltb block.end (length s)) refl
       where
-        go : (t : Bool) → ltb f (length s) ≡ t → MadeUpOf s (pick t (Faulty LeftOver f) (Blocks a b c d e f))
+        go : (t : Bool) → ltb block.end (length s) ≡ t → MadeUpOf s (pick t (refused_at LeftOver block.end) (blocks_from a b c d block.begin block.end))
         go true g = tt
         go false g =
-            let none : drop f s ≡ [] = drop_of_length-le s (ltb-false _ _ g) in
-            let last : drop d s ≡ block_bytes (between e f s) = r ∙ rw none (append-nil (block_bytes (between e f s))) in
-            record { bytes = blocks_joined (between a b s) (between c d s) (between e f s) p q last; most = most }
+            let none : drop block.end s ≡ [] = drop_of_length-le s (ltb-false _ _ g) in
+            let last : drop d s ≡ block_bytes (between block.begin block.end s) = r ∙ rw none (append-nil (block_bytes (between block.begin block.end s))) in
+            record { bytes = blocks_joined (between a b s) (between c d s) (between block.begin block.end s) p q last; most = most }
 
-    second_made_up : (a b : ℕ) → drop 0 s ≡ block_bytes (between a b s) ++ drop b s → (x : Block) → Taking s b x →
+    second_made_up : (a b : ℕ) → drop 0 s ≡ block_bytes (between a b s) ++ drop b s → (x : BlockAt) → Taking s b x →
         MadeUpOf s (with_second s a b x)
-    second_made_up a b p (Missing cause place) r = tt
-    second_made_up a b p (Found c d) r = third_made_up a b c d p r (block_at s d) (taking d)
+    second_made_up a b p (Err why) r = tt
+    second_made_up a b p (Ok block) r = third_made_up a b block.begin block.end p r (block_at s block.end) (taking block.end)
 
-    first_made_up : (x : Block) → Taking s 0 x → MadeUpOf s (with_first s x)
-    first_made_up (Missing cause place) r = tt
-    first_made_up (Found a b) r = second_made_up a b r (block_at s b) (taking b)
+    first_made_up : (x : BlockAt) → Taking s 0 x → MadeUpOf s (with_first s x)
+    first_made_up (Err why) r = tt
+    first_made_up (Ok block) r = second_made_up block.begin block.end r (block_at s block.end) (taking block.end)
 
   framed_made_up : MadeUpOf s (framing_of s)
   unfolding framing_of
   framed_made_up = go (ltb longest_input (length s)) refl
     where
       go : (t : Bool) → ltb longest_input (length s) ≡ t →
-          MadeUpOf s (pick t (Faulty CutShort longest_input) (with_first s (block_at s 0)))
+          MadeUpOf s (pick t (refused_at CutShort longest_input) (with_first s (block_at s 0)))
       go true e = tt
       go false e = first_made_up (ltb-false _ _ e) (block_at s 0) (taking 0)
 
@@ -197,9 +195,9 @@ module _ (s : List ℕ) (bytes : (i : ℕ) → get_or s i 0 < 256) where
       MadeUp s table inputs requirement
   named_made_up table inputs requirement h = go (framing_of s) framed_made_up h
     where
-      go : (w : Framed) → MadeUpOf s w → Names s w table inputs requirement → MadeUp s table inputs requirement
-      go (Faulty cause place) m n = absurd n
-      go (Blocks a b c d e f) m n = rw (n.0, n.1, n.2) m
+      go : (w : Framing) → MadeUpOf s w → Names s w table inputs requirement → MadeUp s table inputs requirement
+      go (Err why) m n = absurd n
+      go (Ok blocks) m n = rw (n.0, n.1, n.2) m
 
 -- The framing accepts an input, and names these blocks, exactly if it is made up of them.
 pub accepts_made_up : (s table inputs requirement : List ℕ) → ((i : ℕ) → get_or s i 0 < 256) →
@@ -213,7 +211,7 @@ pub one_triple : (s table inputs requirement table' inputs' requirement' : List 
 one_triple s table inputs requirement table' inputs' requirement' m m' =
     go (framing_of s) (made_up_named s table inputs requirement m) (made_up_named s table' inputs' requirement' m')
   where
-    go : (w : Framed) → Names s w table inputs requirement → Names s w table' inputs' requirement' →
+    go : (w : Framing) → Names s w table inputs requirement → Names s w table' inputs' requirement' →
         (table ≡ table') × (inputs ≡ inputs') × (requirement ≡ requirement')
-    go (Faulty cause place) h k = absurd h
-    go (Blocks a b c d e f) h k = (h.0 ∙ sym k.0, h.1 ∙ sym k.1, h.2 ∙ sym k.2)
+    go (Err why) h k = absurd h
+    go (Ok blocks) h k = (h.0 ∙ sym k.0, h.1 ∙ sym k.1, h.2 ∙ sym k.2)

@@ -20,10 +20,8 @@ use Rattle.requirement.specs.Reading.{Parsed, whole, unread, parsed}
 use Rattle.requirement.specs.declared.Kind.TheVariants.{Untranslated}
 use Rattle.run.specs.Limits.{trace_room}
 use Rattle.run.specs.Trace.{trace_bytes, numbers_in, run_of}
-use Rattle.report.specs.Framing.{longest_input, block_at, with_third, with_second, with_first, framing_of, between, BlockAt}
+use Rattle.report.specs.Framing.{longest_input, block_at, with_third, with_second, with_first, framing_of, between, BlockAt, Framing}
 use Rattle.report.specs.Reporting.{OfRun, OfBlocks, Reports}
-use Rattle.report.specs.declared.framing.Framed.{Framed}
-use Rattle.report.specs.declared.framing.Framed.TheVariants.{Blocks, Faulty}
 use Rattle.report.specs.MadeUp.{Names}
 use Rattle.report.specs.Printed.{AcceptedInput, AnswerFor, Printed, refused, answered}
 use Rattle.report.proofs.Splitting.{block_by}
@@ -34,9 +32,9 @@ abbrev OneBlock : BlockAt → Type 0
 OneBlock (Ok block) = Unit {0}
 OneBlock (Err why) = number_of why.cause ≡ 1
 
-abbrev OneFramed : Framed → Type 0
-OneFramed (Blocks a b c d e f) = Unit {0}
-OneFramed (Faulty cause place) = number_of cause ≡ 1
+abbrev OneFramed : Framing → Type 0
+OneFramed (Ok blocks) = Unit {0}
+OneFramed (Err why) = number_of why.cause ≡ 1
 
 module _ (s : List ℕ) where
   block_one : (at : ℕ) → OneBlock (block_at s at)
@@ -95,12 +93,12 @@ module _ (s text : List ℕ) where
     by_run (Err (Halted cause scan process)) e o r = let m = run_most o in refused cause scan (omega (arith, m.0)) m.1 r
     by_run (Err (Refused why)) e o r = let m = table_most o in refused why.cause why.place m.0 (omega (arith, m.1)) r
 
-  by_framed : (w : Framed) → framing_of s ≡ w → OneFramed w → Reports s w text → Printed s text
-  by_framed (Faulty cause place) e o r = refused cause place (omega (arith, o)) (omega (arith, o)) r
-  by_framed (Blocks a b c d e f) g o r =
-      by_run (between a b s) (between c d s) (between e f s) (rw g (refl, refl, refl))
-      (run_of trace_room (between a b s) (between c d s)) refl
-      (run_named trace_room (between a b s) (between c d s) (omega arith)) r
+  by_framed : (w : Framing) → framing_of s ≡ w → OneFramed w → Reports s w text → Printed s text
+  by_framed (Err why) e o r = refused why.cause why.place (omega (arith, o)) (omega (arith, o)) r
+  by_framed (Ok blocks) g o r =
+      by_run (between blocks.table.begin blocks.table.end s) (between blocks.inputs.begin blocks.inputs.end s) (between blocks.requirement.begin blocks.requirement.end s) (rw g (refl, refl, refl))
+      (run_of trace_room (between blocks.table.begin blocks.table.end s) (between blocks.inputs.begin blocks.inputs.end s)) refl
+      (run_named trace_room (between blocks.table.begin blocks.table.end s) (between blocks.inputs.begin blocks.inputs.end s) (omega arith)) r
 
   -- The one statement: whatever is printed for an input is one of the two.
   pub printed : Reports s (framing_of s) text → Printed s text
@@ -113,7 +111,7 @@ module _ (s text : List ℕ) where
       let goes = closed x.requirement x.reads in
       rw (x.closes, goes) at (of_blocks (framing_of s) x.blocks r)
     where
-      of_blocks : (w : Framed) → Names s w x.table x.inputs x.code → Reports s w text →
+      of_blocks : (w : Framing) → Names s w x.table x.inputs x.code → Reports s w text →
           OfBlocks x.table x.inputs x.code text
-      of_blocks (Faulty cause place) h r = absurd h
-      of_blocks (Blocks a b c d e f) h r = rw (h.0, h.1, h.2) r
+      of_blocks (Err why) h r = absurd h
+      of_blocks (Ok blocks) h r = rw (h.0, h.1, h.2) r

@@ -20,10 +20,8 @@ use Rattle.lasso.specs.Bytes.{trace_of}
 use Rattle.judge.specs.Judging.{Checks, stop, go, checks_of}
 use Rattle.run.specs.Limits.{trace_room}
 use Rattle.run.specs.Trace.{trace_bytes, numbers_in, run_of}
-use Rattle.report.specs.Framing.{framing_of, between}
+use Rattle.report.specs.Framing.{framing_of, between, Framing}
 use Rattle.report.specs.Reporting.{work_room, list_room, Answered, OfJudging, OfRun, Reports}
-use Rattle.report.specs.declared.framing.Framed.{Framed}
-use Rattle.report.specs.declared.framing.Framed.TheVariants.{Blocks, Faulty}
 use Rattle.report.proofs.report.Kinds as report
 use Rattle.report.proofs.report.Reads as report_reads
 
@@ -51,10 +49,10 @@ module _ (x y : List ℕ) where
   one_run (Err (Halted cause scan process)) T I code a b = a ∙ sym b
   one_run (Err (Refused why)) T I code a b = a ∙ sym b
 
-  one_framed : (s : List ℕ) (w : Framed) → Reports s w x → Reports s w y → x ≡ y
-  one_framed s (Faulty cause place) p q = p ∙ sym q
-  one_framed s (Blocks a b c d e f) p q =
-      one_run (run_of trace_room (between a b s) (between c d s)) (numbers_in (between a b s)) (numbers_in (between c d s)) (between e f s) p q
+  one_framed : (s : List ℕ) (w : Framing) → Reports s w x → Reports s w y → x ≡ y
+  one_framed s (Err why) p q = p ∙ sym q
+  one_framed s (Ok blocks) p q =
+      one_run (run_of trace_room (between blocks.table.begin blocks.table.end s) (between blocks.inputs.begin blocks.inputs.end s)) (numbers_in (between blocks.table.begin blocks.table.end s)) (numbers_in (between blocks.inputs.begin blocks.inputs.end s)) (between blocks.requirement.begin blocks.requirement.end s) p q
 
   pub one_text : (s : List ℕ) → Reports s (framing_of s) x → Reports s (framing_of s) y → x ≡ y
   one_text s p q = one_framed s (framing_of s) p q

@@ -1,41 +1,55 @@
 -- Document 01, The bench case: "The program scancheck reads from standard input three blocks (table, inputs, untranslated requirement), each after its length as a number of
 -- the coding. First, input over 60,000 bytes is refusal 1 at 60,000, then a faulty length, a block cut short or left-over bytes is refusal 1, placed in the whole input".
 -- Assumes nothing: these are definitions.
-use Rattle.std.specs.Prelude.{ℕ, ◌+◌, ◌-◌, List, length, take, drop, ltb}
-use Rattle.coding.specs.Number.{pick, number_at}
-use Rattle.coding.specs.declared.Number.TheVariants.{Value, Fault}
-use Rattle.coding.specs.declared.Cause.TheVariants.{CutShort, LeftOver}
+use Rattle.coding.specs.Refusal.{refused_at}
+use Rattle.std.specs.Prelude.{ℕ, ◌+◌, ◌-◌, List, length, take, drop, ltb, Ok, Err, Result}
+use Rattle.coding.specs.declared.Refusal.{Refusal}
 use Rattle.report.specs.declared.framing.Block.{Block}
-use Rattle.report.specs.declared.framing.Block.TheVariants.{Found, Missing}
-use Rattle.report.specs.declared.framing.Framed.{Framed}
-use Rattle.report.specs.declared.framing.Framed.TheVariants.{Blocks, Faulty}
+use Rattle.report.specs.declared.framing.Blocks.{Blocks}
+use Rattle.coding.specs.Number.{pick, number_at}
+use Rattle.coding.specs.declared.Cause.TheVariants.{CutShort, LeftOver}
+
+-- A block: where it begins and ends, or what is wrong.
+abbrev pub BlockAt : Type 0
+BlockAt = Result Block Refusal
+
+abbrev pub block_from : ℕ → ℕ → BlockAt
+block_from begin end = Ok (record { begin = begin; end = end })
+
+-- Where the table, the inputs and the requirement begin and end, or what is wrong.
+abbrev pub Framing : Type 0
+Framing = Result Blocks Refusal
+
+abbrev pub blocks_from : ℕ → ℕ → ℕ → ℕ → ℕ → ℕ → Framing
+blocks_from a b c d e f =
+    Ok (record { table = record { begin = a; end = b }; inputs = record { begin = c; end = d }; requirement = record { begin = e; end = f } })
 
 abbrev pub longest_input : ℕ
 longest_input = 60000
 
 -- The block whose length stands at a place: "a text or block cut short at its length's first byte".
-unfoldable pub block_at : List ℕ → ℕ → Block
+unfoldable pub block_at : List ℕ → ℕ → BlockAt
 block_at s at =
     elim (number_at s at) [
-      | Value n next ↦ pick (ltb (length s - next) n) (Missing CutShort at) (Found next (next + n))
-      | Fault cause place ↦ Missing cause place
+      | Ok num ↦ pick (ltb (length s - num.next) num.value) (refused_at CutShort at) (block_from num.next (num.next + num.value))
+      | Err why ↦ Err why
     ]
 
 -- "left-over bytes at the first of them"
-abbrev pub with_third : List ℕ → ℕ → ℕ → ℕ → ℕ → Block → Framed
-with_third s a b c d (Found e f) = pick (ltb f (length s)) (Faulty LeftOver f) (Blocks a b c d e f)
-with_third s a b c d (Missing cause place) = Faulty cause place
+abbrev pub with_third : List ℕ → ℕ → ℕ → ℕ → ℕ → BlockAt → Framing
+with_third s a b c d (Ok block) = pick (ltb block.end (length s)) (refused_at LeftOver block.end) (blocks_from a b c d block.begin block.end)
+with_third s a b c d (Err why) = Err why
 
-abbrev pub with_second : List ℕ → ℕ → ℕ → Block → Framed
-with_second s a b (Found c d) = with_third s a b c d (block_at s d)
-with_second s a b (Missing cause place) = Faulty cause place
+abbrev pub with_second : List ℕ → ℕ → ℕ → BlockAt → Framing
+with_second s a b (Ok block) = with_third s a b block.begin block.end (block_at s block.end)
+with_second s a b (Err why) = Err why
 
-abbrev pub with_first : List ℕ → Block → Framed
-with_first s (Found a b) = with_second s a b (block_at s b)
-with_first s (Missing cause place) = Faulty cause place
+abbrev pub with_first : List ℕ → BlockAt → Framing
+with_first s (Ok block) = with_second s block.begin block.end (block_at s block.end)
+with_first s (Err why) = Err why
 
-unfoldable pub framing_of : List ℕ → Framed
-framing_of s = pick (ltb longest_input (length s)) (Faulty CutShort longest_input) (with_first s (block_at s 0))
+unfoldable pub framing_of : List ℕ → Framing
+framing_of s = pick (ltb longest_input (length s)) (refused_at CutShort longest_input) (with_first s (block_at s 0))
 
 -- The bytes from a place up to another.
 unfoldable pub between : ℕ → ℕ → List ℕ → List ℕ

@@ -1,11 +1,9 @@
 -- The program's input as it is made up. Document 01, The bench case: "three blocks (table, inputs, untranslated
 -- requirement), each after its length as a number of the coding".
 -- Assumes nothing: these are definitions.
-use Rattle.std.specs.Prelude.{ℕ, ◌≤◌, ◌≡◌, List, ◌++◌, length}
+use Rattle.std.specs.Prelude.{ℕ, ◌≤◌, ◌≡◌, List, ◌++◌, length, Ok, Err}
 use Rattle.coding.specs.Number.{bytes_of}
-use Rattle.report.specs.Framing.{longest_input, between}
-use Rattle.report.specs.declared.framing.Framed.{Framed}
-use Rattle.report.specs.declared.framing.Framed.TheVariants.{Blocks, Faulty}
+use Rattle.report.specs.Framing.{longest_input, between, Framing}
 
 -- A block behind its length.
 unfoldable pub block_bytes : List ℕ → List ℕ
@@ -21,7 +19,7 @@ pub record MadeUp (s table inputs requirement : List ℕ) : Type 0 where
   pub most : length s ≤ longest_input
 
 -- The framing, if it names blocks, names these.
-abbrev pub Names : List ℕ → Framed → List ℕ → List ℕ → List ℕ → Type 0
-Names s (Blocks a b c d e f) table inputs requirement =
-    (table ≡ between a b s) × (inputs ≡ between c d s) × (requirement ≡ between e f s)
-Names s (Faulty cause place) table inputs requirement = ⊥
+abbrev pub Names : List ℕ → Framing → List ℕ → List ℕ → List ℕ → Type 0
+Names s (Ok blocks) table inputs requirement =
+    (table ≡ between blocks.table.begin blocks.table.end s) × (inputs ≡ between blocks.inputs.begin blocks.inputs.end s) × (requirement ≡ between blocks.requirement.begin blocks.requirement.end s)
+Names s (Err why) table inputs requirement = ⊥

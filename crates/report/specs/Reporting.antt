@@ -13,10 +13,8 @@ use Rattle.lasso.specs.Bytes.{trace_of}
 use Rattle.judge.specs.Judging.{Checks, stop, go, checks_of}
 use Rattle.run.specs.Limits.{trace_room}
 use Rattle.run.specs.Trace.{trace_bytes, numbers_in, run_of}
-use Rattle.report.specs.Framing.{between}
+use Rattle.report.specs.Framing.{between, Framing}
 use Rattle.report.specs.Lines.{refused_line, answer_lines}
-use Rattle.report.specs.declared.framing.Framed.{Framed}
-use Rattle.report.specs.declared.framing.Framed.TheVariants.{Blocks, Faulty}
 
 -- The room that the program has for work and list: 16 rows of 512 bytes, and 2 bytes for each of 4,096 positions. It is always enough (proofs/Enough.antt).
 abbrev pub work_room : ℕ
@@ -47,6 +45,6 @@ abbrev pub OfBlocks : List ℕ → List ℕ → List ℕ → List ℕ → Type 0
 OfBlocks table inputs code text = OfRun (run_of trace_room table inputs) (numbers_in table) (numbers_in inputs) code text
 
 -- The text is what is printed for the input s, framed so.
-abbrev pub Reports : List ℕ → Framed → List ℕ → Type 0
-Reports s (Blocks a b c d e f) text = OfBlocks (between a b s) (between c d s) (between e f s) text
-Reports s (Faulty cause place) text = text ≡ refused_line (number_of cause) place
+abbrev pub Reports : List ℕ → Framing → List ℕ → Type 0
+Reports s (Ok blocks) text = OfBlocks (between blocks.table.begin blocks.table.end s) (between blocks.inputs.begin blocks.inputs.end s) (between blocks.requirement.begin blocks.requirement.end s) text
+Reports s (Err why) text = text ≡ refused_line (number_of why.cause) why.place

@@ -11,10 +11,7 @@ ghost use Rattle.report.specs.Framing.{framing_of};
 ghost use Rattle.report.specs.Reporting.{work_room, list_room, OfJudging, OfBlocks, Reports};
 ghost use Rattle.report.specs.Printing.{Prints};
 
-use framing::Framed;
-use judge::Judged;
 use requirement::Kind;
-use run::Ran;
 
 // Room for the trace, for work and for the list.
 const TRACE: usize = 20480;
@@ -30,8 +27,8 @@ fn report_judging(code: &[u8], n: usize, start: usize, trace: &[u8], out: &mut [
     let mut work = [0u8; WORK];
     let mut list = [0u8; LIST];
     match judge::judge(Kind::Untranslated, code, trace, start, &mut work, &mut list) {
-        Judged::Refused(cause, place) => lines::put_refused(cause, place, out),
-        Judged::Verdict(holds, count) => lines::put_answer(n, start, holds, count, &list, out),
+        Ok(verdict) => lines::put_answer(n, start, verdict.holds, verdict.count, &list, out),
+        Err(why) => lines::put_refused(why, out),
     }
 }
 
@@ -41,9 +38,11 @@ fn report_blocks(table: &[u8], inputs: &[u8], code: &[u8], out: &mut [u8]) -> us
 {
     let mut trace = [0u8; TRACE];
     match run::run(table, inputs, &mut trace) {
-        Ran::Closed(n, start) => report_judging(code, n, start, &trace[0..n * 5], out),
-        Ran::Halted(cause, scan, _) => lines::put_refused(cause, scan as usize, out),
-        Ran::Refused(cause, place) => lines::put_refused(cause, place, out),
+        Ok(closed) => {
+            let n = closed.positions;
+            report_judging(code, n, closed.start, &trace[0..n * 5], out)
+        }
+        Err(stop) => lines::put_refused(stop.told(), out),
     }
 }
 
@@ -52,9 +51,12 @@ pub fn report(input: &[u8], out: &mut [u8]) -> usize
     ensures { Prints (Reports input.now (framing_of input.now)) result out.old out.new }
 {
     match framing::framing(input) {
-        Framed::Faulty(cause, place) => lines::put_refused(cause, place, out),
-        Framed::Blocks(a, b, c, d, e, f) => {
-            report_blocks(&input[a..b], &input[c..d], &input[e..f], out)
-        }
+        Ok(blocks) => report_blocks(
+            &input[blocks.table.begin..blocks.table.end],
+            &input[blocks.inputs.begin..blocks.inputs.end],
+            &input[blocks.requirement.begin..blocks.requirement.end],
+            out,
+        ),
+        Err(why) => lines::put_refused(why, out),
     }
 }

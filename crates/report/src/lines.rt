@@ -7,7 +7,7 @@ ghost use Rattle.report.specs.Lines.{decimal, at_line, refused_line, positions_l
 ghost use Rattle.report.specs.Placing.{Put, Puts, pairs_from};
 ghost use Rattle.report.specs.Printing.{longest_text};
 
-use coding::Cause;
+use coding::Refusal;
 
 // The buffer, and the place in it, or behind its end, where the next byte belongs.
 #[derive(Drop)]
@@ -118,14 +118,14 @@ fn byte_at(list: &[u8], at: usize) -> usize
 }
 
 // `refused`, the cause's number, `at` and a place: the whole text of a refusal.
-pub fn put_refused(cause: Cause, place: usize, out: &mut [u8]) -> usize
-    ensures { Put (refused_line (number_of cause) place) 0 result out.old out.new × (result ≤ longest_text) }
+pub fn put_refused(why: Refusal, out: &mut [u8]) -> usize
+    ensures { Put (refused_line (number_of why.cause) why.place) 0 result out.old out.new × (result ≤ longest_text) }
 {
     let mut lines = Lines { out, at: 0 };
     lines.word(b"refused ");
-    lines.number(coding::number_of(cause) as usize);
+    lines.number(coding::number_of(why.cause) as usize);
     lines.word(b" ");
-    lines.at_line(place);
+    lines.at_line(why.place);
     lines.at
 }
 

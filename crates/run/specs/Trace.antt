@@ -5,6 +5,7 @@ use Rattle.std.specs.Prelude.{ℕ, zero, suc, List, [], ◌++◌, length, replic
 use Rattle.coding.specs.Code.{code_at, values}
 use Rattle.coding.specs.Room.{over}
 use Rattle.coding.specs.Refusal.{accepted, refusal, Answer}
+use Rattle.coding.specs.declared.Refusal.{Refusal}
 use Rattle.coding.specs.declared.Told.{Told}
 use Rattle.coding.specs.declared.Cause.TheVariants.{ShortBuffer}
 use Rattle.ranges.specs.Limits.{most_processes}
@@ -15,6 +16,7 @@ use Rattle.scan.specs.Position.{state_bytes}
 use Rattle.run.specs.Limits.{trace_room}
 use Rattle.run.specs.Moves.{begun}
 use Rattle.run.specs.Running.{recorded_move, ran_of, Ran, run_refused}
+use Rattle.run.specs.declared.Stop.{Stop}
 use Rattle.run.specs.declared.Machine.{Machine}
 
 -- The bytes of n states, one move after another.
@@ -48,6 +50,11 @@ abbrev pub left_in : Ran → List ℕ → List ℕ → List ℕ → List ℕ
 left_in (Ok closed) T I trace = over (replicate (length trace) 0) 0 (trace_bytes T I closed.positions)
 left_in (Err (Halted cause scan process)) T I trace = replicate (length trace) 0
 left_in (Err (Refused why)) T I trace = trace
+
+-- The refusal that a stop is told as: 5 to 8 have the scan for their place.
+abbrev pub stop_told : Stop → Refusal
+stop_told (Halted cause scan process) = record { cause = cause; place = scan }
+stop_told (Refused why) = why
 
 -- A run's answer in the paper's numbers: the position count and the loop start, or the refusal and its place.
 abbrev pub ran_told : Ran → Told

@@ -12,7 +12,7 @@ ghost use Rattle.std.specs.Prelude.{◌≡◌, ◌≤◌, length};
 ghost use Rattle.run.specs.declared.Stop.TheVariants.{Refused};
 ghost use Rattle.run.specs.Limits.{trace_room};
 ghost use Rattle.run.specs.Running.{ran_of};
-ghost use Rattle.run.specs.Trace.{numbers_in, by_inputs, run_of, left_in};
+ghost use Rattle.run.specs.Trace.{numbers_in, by_inputs, run_of, left_in, stop_told};
 ghost use Rattle.table.specs.Table.{inputs_grammar};
 ghost use Rattle.coding.specs.Code.{code_at};
 ghost use Rattle.lookups.specs.Places.{inputs_of};
@@ -73,6 +73,18 @@ impl From<Refusal> for Stop {
 
     fn from(why: Refusal) -> Stop {
         Stop::Refused(why)
+    }
+}
+
+impl Stop {
+    // The refusal that a stop is told as: its cause, at the scan.
+    pub fn told(self) -> Refusal
+        ensures { result ≡ stop_told self }
+    {
+        match self {
+            Stop::Halted(cause, scan, _) => cause.at(scan as usize),
+            Stop::Refused(why) => why,
+        }
     }
 }
 

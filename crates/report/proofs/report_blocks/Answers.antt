@@ -3,7 +3,7 @@ use mathlib.Core.List.{List}
 use lib.ListN.{replicate}
 use native.Mathlib.Omega.{arith}
 use mathlib.Core.Path.{refl}
-use Rattle.report.proofs.Answering.{closed_few, closed_inside, closed_prints, halted_prints, refused_prints}
+use Rattle.report.proofs.Answering.{closed_few, closed_inside, closed_prints, stop_prints}
 use Rattle.report.proofs.report_blocks.Goals as goal
 
 -- What the local buffer holds at first.
@@ -17,7 +17,7 @@ overflow_mul-n c =
     omega (
       arith,
       closed_few a.table.now a.inputs.now a.code.now blank x.new.trace x.result refl x.ensures.0 x.ensures.1
-          c.in-Closed.n c.in-Closed.start c.in-Closed.is,
+          _ _ c.in-Ok.is,
     )
 
 pub slice_bounds-report_judging-end : goal.slice_bounds-report_judging-end
@@ -25,25 +25,18 @@ slice_bounds-report_judging-end c =
     let a = c.args in
     let x = c.run in
     closed_inside a.table.now a.inputs.now a.code.now blank x.new.trace x.result refl x.ensures.0 x.ensures.1
-    _ _ c.in-Closed.is
+    _ _ c.in-Ok.is
 
-pub returns-in-Closed : goal.returns-in-Closed
-returns-in-Closed c =
+pub returns-in-Ok : goal.returns-in-Ok
+returns-in-Ok c =
     let a = c.args in
     let x = c.run in
     closed_prints a.table.now a.inputs.now a.code.now blank x.new.trace x.result refl x.ensures.0 x.ensures.1
-    _ _ c.in-Closed.is _ _ _ c.report_judging.ensures
+    _ _ c.in-Ok.is _ _ _ c.report_judging.ensures
 
-pub returns-in-Halted : goal.returns-in-Halted
-returns-in-Halted c =
+pub returns-in-Err : goal.returns-in-Err
+returns-in-Err c =
     let a = c.args in
     let x = c.run in
-    halted_prints a.table.now a.inputs.now a.code.now blank x.new.trace x.result refl x.ensures.0 x.ensures.1
-    _ _ _ c.in-Halted.is _ _ _ c.put_refused.ensures
-
-pub returns-in-Refused : goal.returns-in-Refused
-returns-in-Refused c =
-    let a = c.args in
-    let x = c.run in
-    refused_prints a.table.now a.inputs.now a.code.now blank x.new.trace x.result refl x.ensures.0 x.ensures.1
-    _ _ c.in-Refused.is _ _ _ c.put_refused-in-Refused.ensures
+    stop_prints a.table.now a.inputs.now a.code.now blank x.new.trace x.result refl x.ensures.0 x.ensures.1
+    _ c.in-Err.is _ c.told.ensures _ _ _ c.put_refused.ensures

@@ -14,18 +14,18 @@ put_answer-requires c =
     let a = c.args in
     let j = c.judge in
     count_few a.code.now a.trace.now blank blank j.new.work j.new.list a.start j.result refl
-    refl j.ensures _ _ c.in-Verdict.is
+    refl j.ensures _ _ c.in-Ok.is
 
-pub returns-in-Refused : goal.returns-in-Refused
-returns-in-Refused c =
+pub returns-in-Err : goal.returns-in-Err
+returns-in-Err c =
     let a = c.args in
     let j = c.judge in
     refusal_prints a.code.now a.trace.now blank blank j.new.work j.new.list a.start j.result
-    refl refl j.ensures _ _ _ c.in-Refused.is _ _ _ c.put_refused.ensures
+    refl refl j.ensures _ _ _ c.in-Err.is _ _ _ c.put_refused.ensures
 
-pub returns-in-Verdict : goal.returns-in-Verdict
-returns-in-Verdict c =
+pub returns-in-Ok : goal.returns-in-Ok
+returns-in-Ok c =
     let a = c.args in
     let j = c.judge in
     answer_prints a.code.now a.trace.now blank blank j.new.work j.new.list a.start j.result
-    refl refl j.ensures _ _ c.in-Verdict.is _ _ _ _ c.put_answer.ensures
+    refl refl j.ensures _ _ c.in-Ok.is _ _ _ _ c.put_answer.ensures
