@@ -1,12 +1,12 @@
 -- A report on the first bytes of a buffer, and on the whole input that they are the first bytes of.
 -- Assumes nothing.
-use Prim.Native.Nat.{ℕ, ◌+◌, ◌-◌, ◌≤◌}
+use Prim.Native.Nat.{ℕ, ◌+◌, ◌≤◌}
 use native.Mathlib.Omega.{arith}
-use mathlib.Core.Path.{◌≡◌, ap, ◌∙◌}
+use mathlib.Core.Path.{◌≡◌}
 use mathlib.Core.List.{List}
 use lib.ListN.{length, take, drop}
 use lib.Seq.{take-append_seam}
-use Rattle.coding.proofs.Bytes.{over_eq, over_length}
+use Rattle.coding.proofs.Bytes.{over_eq}
 use Rattle.report.specs.Framing.{framing_of}
 use Rattle.report.specs.Printing.{Prints}
 use Rattle.report.specs.Reporting.{Reports}
@@ -14,20 +14,18 @@ use Rattle.report.proofs.Front.{front_reports}
 use Rattle.program.specs.Program.{ReportOn, ChecksInput}
 use Rattle.program.specs.declared.Checked.{Checked}
 
-pub front_prints : (read : ℕ) (s : List ℕ) (r : ℕ) (d e : List ℕ) →
-    Prints (Reports (take (read - 0) (drop 0 s)) (framing_of (take (read - 0) (drop 0 s)))) r d e →
-    Prints (ReportOn (take read s)) r d e
+-- What is printed on an input is its report.
+pub on_input : (s : List ℕ) (r : ℕ) (d e : List ℕ) → Prints (Reports s (framing_of s)) r d e → Prints (ReportOn s) r d e
 unfolding ReportOn
-front_prints read s r d e p = let all : read - 0 ≡ read = omega arith in rw all at p
+on_input s r d e p = p
 
 -- What stands at the front of a buffer that has room for every text is the text itself.
-pub text_there : (P : List ℕ → Type 0) (r : ℕ) (d e : List ℕ) → length d ≡ 100000 → Prints P r d e →
-    (r ≤ length e) × P (take r e)
+pub text_there : (P : List ℕ → Type 0) (r : ℕ) (d e : List ℕ) → length d ≡ 100000 → Prints P r d e → P (take r e)
 text_there P r d e size p =
     let room : 0 + length p.text ≤ length d = omega (arith, p.count, p.short, size) in
     let front : take r e ≡ p.text =
     rw (p.count, p.stands, over_eq d 0 p.text room) (take-append_seam p.text (drop (0 + length p.text) d)) in
-    (omega (arith, ap length p.stands ∙ over_length d 0 p.text, p.short, size), rw front p.true_of)
+    rw front p.true_of
 
 -- Where the bytes read are the first of an input, at most 60,001, what is printed is the report on that whole input,
 -- however long it is.

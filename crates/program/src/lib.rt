@@ -23,14 +23,6 @@ pub struct Checked {
     pub written: bool,
 }
 
-// Reports on the first `read` bytes of `input`, into `output`.
-fn report_front(input: &[u8], read: usize, output: &mut [u8]) -> usize
-    requires { read ≤ length input.now }
-    ensures { Prints (ReportOn (take read input.now)) result output.old output.new }
-{
-    report::report(&input[0..read], output)
-}
-
 // Writes bytes until all are written, or stops at the first write that takes nothing or fails, and answers whether all
 // were. (The library's `write_all` says nothing of what a failed writer got.)
 fn write_full<W: Write>(writer: &mut W, bytes: &[u8]) -> bool
@@ -47,20 +39,14 @@ fn write_full<W: Write>(writer: &mut W, bytes: &[u8]) -> bool
     true
 }
 
-// Writes the first bytes of a buffer: the one line that hands anything to the writer, which for the program is standard
-// output. What the operating system writes no promise can say; but what this function relies on, and the prover checks
-// where it is called, is that these bytes are the text for the input.
-fn write_text<W: Write>(
-    writer: &mut W,
-    input: &[u8],
-    read: usize,
-    output: &[u8],
-    count: usize,
-) -> bool
-    requires { (count ≤ length output.now) × ReportOn (take read input.now) (take count output.now) }
-    ensures { WritesFront result (take count output.now) (W.contents writer.old) (W.contents writer.new) }
+// Writes the text: the one line that hands anything to the writer, which for the program is standard output. What the
+// operating system writes no promise can say; but what this function relies on, and the prover checks where it is
+// called, is that these bytes are the text for the input.
+fn write_text<W: Write>(writer: &mut W, input: &[u8], text: &[u8]) -> bool
+    requires { ReportOn input.now text.now }
+    ensures { WritesFront result text.now (W.contents writer.old) (W.contents writer.new) }
 {
-    write_full(writer, &output[0..count])
+    write_full(writer, text)
 }
 
 // Reads an input, reports on what was read, and writes the report's text. What is left in the output buffer is promised,
@@ -80,8 +66,8 @@ pub fn check_input<R: Read, W: Write>(
         (W.contents writer.old) (W.contents writer.new) }
 {
     let read = records::read_full(reader, input);
-    let length = report_front(input, read, output);
-    let written = write_text(writer, input, read, output, length);
+    let length = report::report(&input[..read], output);
+    let written = write_text(writer, &input[..read], &output[..length]);
     Checked {
         read,
         length,

@@ -4,16 +4,18 @@ ghost use Rattle.std.specs.Io.KnownBytes.{Appends};
 ghost use Rattle.coding.specs.Refusal.{number_of};
 ghost use Rattle.records.specs.Words.{refused, kind_word};
 
-use coding::Cause;
+use coding::Refusal;
 use requirement::Kind;
 use std::io;
 use std::io::Write;
 
 // `: refused`, the cause's number, `at` and the place.
-pub fn say_refused<W: Write>(out: &mut W, cause: Cause, place: usize) -> io::Result<()>
-    ensures { OnOk result (Appends (W.contents out.old) (W.contents out.new) (refused (number_of cause) place)) }
+pub fn say_refused<W: Write>(out: &mut W, why: Refusal) -> io::Result<()>
+    ensures { OnOk result (Appends (W.contents out.old) (W.contents out.new)
+        (refused (number_of why.cause) why.place)) }
 {
-    write!(out, ": refused {} at {place}", coding::number_of(cause))
+    let number = coding::number_of(why.cause);
+    write!(out, ": refused {number} at {}", why.place)
 }
 
 // The word for a kind of requirement.

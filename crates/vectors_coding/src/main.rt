@@ -21,10 +21,44 @@ use text::ROOM;
 // No more of the input is read.
 const INPUT_ROOM: usize = 256000;
 
+// What a record asks for.
+#[derive(Clone, Copy)]
+enum Command {
+    ReadNumber,
+    WriteNumber,
+    Check(Kind),
+    Read(Code),
+    Write(Code),
+    LookUp,
+    Unknown,
+}
+
+impl Command {
+    // The command of this number; an inputs code takes `with` along as its input count.
+    fn of(number: u8, with: u16) -> Self {
+        match number {
+            0 => Command::ReadNumber,
+            1 => Command::WriteNumber,
+            2 => Command::Check(Kind::Untranslated),
+            3 => Command::Check(Kind::Translated),
+            4 => Command::Read(Code::Requirement(Kind::Untranslated)),
+            5 => Command::Read(Code::Requirement(Kind::Translated)),
+            6 => Command::Read(Code::Table),
+            7 => Command::Read(Code::Inputs(with)),
+            8 => Command::Write(Code::Requirement(Kind::Untranslated)),
+            9 => Command::Write(Code::Requirement(Kind::Translated)),
+            10 => Command::Write(Code::Table),
+            11 => Command::Write(Code::Inputs(with)),
+            12 => Command::LookUp,
+            _ => Command::Unknown,
+        }
+    }
+}
+
 // A record.
 #[derive(Clone, Copy)]
 struct Asked<'a> {
-    command: u8,
+    command: Command,
     with: u16,
     room: u16,
     data: &'a [u8],
@@ -36,16 +70,6 @@ impl Asked<'_> {
         ensures { result ≤ 8000 }
     {
         usize::from(self.room).min(ROOM)
-    }
-
-    // The code that the command reads or writes: in either row of commands the four come in this order.
-    fn code(&self) -> Code {
-        match self.command % 4 {
-            0 => Code::Requirement(Kind::Untranslated),
-            1 => Code::Requirement(Kind::Translated),
-            2 => Code::Table,
-            _ => Code::Inputs(self.with),
-        }
     }
 
     fn read_number<W: Write>(&self, out: &mut W) -> io::Result<()> {
@@ -64,12 +88,10 @@ impl Asked<'_> {
 
     fn check<W: Write>(&self, out: &mut W, kind: Kind) -> io::Result<()> {
         write!(out, "check {}", records::word_of(kind))?;
-        let none = [0u16; 1];
-        text::say_checked(out, requirement::check(kind, true, self.data, &none))
+        text::say_checked(out, requirement::check(kind, self.data))
     }
 
-    fn read<W: Write>(&self, out: &mut W) -> io::Result<()> {
-        let code = self.code();
+    fn read<W: Write>(&self, out: &mut W, code: Code) -> io::Result<()> {
         write!(out, "read {code}")?;
         let lent = self.lent();
         let mut numbers = [165u16; ROOM];
@@ -77,8 +99,7 @@ impl Asked<'_> {
         text::say_stored(out, answer, lent, &numbers)
     }
 
-    fn write<W: Write>(&self, out: &mut W) -> io::Result<()> {
-        let code = self.code();
+    fn write<W: Write>(&self, out: &mut W, code: Code) -> io::Result<()> {
         write!(out, "write {code}")?;
         let lent = self.lent();
         let mut numbers = [0u16; ROOM];
@@ -101,13 +122,13 @@ impl Asked<'_> {
 
 impl<'a> Record<'a> for Asked<'a> {
     fn next(unread: &mut Unread<'a>) -> Option<Self> {
-        let command = unread.byte()?;
+        let number = unread.byte()?;
         let with = unread.number()?;
         let room = unread.number()?;
         let size = unread.number()?;
         let data = unread.bytes(usize::from(size))?;
         Some(Asked {
-            command,
+            command: Command::of(number, with),
             with,
             room,
             data,
@@ -116,14 +137,13 @@ impl<'a> Record<'a> for Asked<'a> {
 
     fn obey<W: Write>(&self, out: &mut W) -> io::Result<()> {
         match self.command {
-            0 => self.read_number(out),
-            1 => self.write_number(out),
-            2 => self.check(out, Kind::Untranslated),
-            3 => self.check(out, Kind::Translated),
-            4..=7 => self.read(out),
-            8..=11 => self.write(out),
-            12 => self.look_up(out),
-            _ => writeln!(out, "no such command"),
+            Command::ReadNumber => self.read_number(out),
+            Command::WriteNumber => self.write_number(out),
+            Command::Check(kind) => self.check(out, kind),
+            Command::Read(code) => self.read(out, code),
+            Command::Write(code) => self.write(out, code),
+            Command::LookUp => self.look_up(out),
+            Command::Unknown => writeln!(out, "no such command"),
         }
     }
 }

@@ -1,8 +1,8 @@
 // What is printed of an answer and of the buffer that was lent.
-use coding::{Answer, Number};
+use coding::{Answer, Number, Refusal};
 use records::{checksum, say_refused};
 use requirement::Checked;
-use sheet::Found;
+use sheet::Span;
 use std::io;
 use std::io::Write;
 use std::ops::Range;
@@ -14,28 +14,28 @@ pub const ROOM: usize = 8000;
 const ENDS: usize = 20;
 
 // The number that was read, and the place after it.
-pub fn say_number<W: Write>(out: &mut W, answer: Number) -> io::Result<()> {
+pub fn say_number<W: Write>(out: &mut W, answer: Result<Number, Refusal>) -> io::Result<()> {
     match answer {
-        Number::Fault(cause, place) => say_refused(out, cause, place)?,
-        Number::Value(v, next) => write!(out, ": accepted {v} next {next}")?,
+        Ok(Number { value, next }) => write!(out, ": accepted {value} next {next}")?,
+        Err(why) => say_refused(out, why)?,
     }
     writeln!(out, "")
 }
 
 // What a requirement has.
-pub fn say_checked<W: Write>(out: &mut W, answer: Checked) -> io::Result<()> {
+pub fn say_checked<W: Write>(out: &mut W, answer: Result<Checked, Refusal>) -> io::Result<()> {
     match answer {
-        Checked::Refused(cause, place) => say_refused(out, cause, place)?,
-        Checked::Whole(nodes, depth) => write!(out, ": nodes {nodes} depth {depth}")?,
+        Ok(Checked { nodes, depth }) => write!(out, ": nodes {nodes} depth {depth}")?,
+        Err(why) => say_refused(out, why)?,
     }
     writeln!(out, "")
 }
 
 // Where a body stands; the line goes on.
-pub fn say_found<W: Write>(out: &mut W, answer: Found) -> io::Result<()> {
+pub fn say_found<W: Write>(out: &mut W, answer: Result<Span, Refusal>) -> io::Result<()> {
     match answer {
-        Found::Refused(cause, place) => say_refused(out, cause, place),
-        Found::Body(begin, end) => write!(out, ": body from {begin} to {end}"),
+        Ok(Span { begin, end }) => write!(out, ": body from {begin} to {end}"),
+        Err(why) => say_refused(out, why),
     }
 }
 
@@ -49,11 +49,11 @@ pub fn say_stored<T: Copy + Into<u16>, W: Write>(
 ) -> io::Result<()> {
     write!(out, " room {lent}")?;
     match answer {
-        Answer::Refused(cause, place) => say_refused(out, cause, place)?,
-        Answer::Count(n) => {
+        Ok(n) => {
             write!(out, ": accepted {n}")?;
             say_row(out, buffer, n)?;
         }
+        Err(why) => say_refused(out, why)?,
     }
     writeln!(out, "; buffer {}", checksum(buffer))
 }

@@ -18,10 +18,30 @@ use text::ROOM;
 // No more of the input is read.
 const INPUT_ROOM: usize = 256000;
 
+// What a record asks for.
+#[derive(Clone, Copy)]
+enum Command {
+    Judge(Kind),
+    // The loop start is told as how much it is below the greatest number.
+    JudgeFar,
+    Translate,
+}
+
+impl From<u8> for Command {
+    fn from(number: u8) -> Self {
+        match number {
+            1 => Command::Judge(Kind::Translated),
+            2 => Command::JudgeFar,
+            3 => Command::Translate,
+            _ => Command::Judge(Kind::Untranslated),
+        }
+    }
+}
+
 // A record.
 #[derive(Clone, Copy)]
 struct Asked<'a> {
-    command: u8,
+    command: Command,
     start: u16,
     work: u16,
     list: u16,
@@ -30,28 +50,7 @@ struct Asked<'a> {
 }
 
 impl Asked<'_> {
-    // Command 1 judges a translated requirement.
-    fn kind(&self) -> Kind {
-        if self.command == 1 {
-            Kind::Translated
-        } else {
-            Kind::Untranslated
-        }
-    }
-
-    // The loop start that is told, or for command 2 the one that is so much below the greatest.
-    fn loop_start(&self) -> usize {
-        let told = usize::from(self.start);
-        if self.command == 2 {
-            usize::MAX - told
-        } else {
-            told
-        }
-    }
-
-    fn judge<W: Write>(&self, out: &mut W) -> io::Result<()> {
-        let kind = self.kind();
-        let start = self.loop_start();
+    fn judge<W: Write>(&self, out: &mut W, kind: Kind, start: usize) -> io::Result<()> {
         let room = lent(self.work);
         let places = lent(self.list);
         let word = records::word_of(kind);
@@ -82,7 +81,7 @@ impl Asked<'_> {
 
 impl<'a> Record<'a> for Asked<'a> {
     fn next(unread: &mut Unread<'a>) -> Option<Self> {
-        let command = unread.byte()?;
+        let command = Command::from(unread.byte()?);
         let start = unread.number()?;
         let work = unread.number()?;
         let list = unread.number()?;
@@ -100,12 +99,12 @@ impl<'a> Record<'a> for Asked<'a> {
         })
     }
 
-    // Command 3 translates, the others judge.
     fn obey<W: Write>(&self, out: &mut W) -> io::Result<()> {
-        if self.command == 3 {
-            self.translate(out)
-        } else {
-            self.judge(out)
+        let told = usize::from(self.start);
+        match self.command {
+            Command::Judge(kind) => self.judge(out, kind, told),
+            Command::JudgeFar => self.judge(out, Kind::Untranslated, usize::MAX - told),
+            Command::Translate => self.translate(out),
         }
     }
 }

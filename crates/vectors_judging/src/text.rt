@@ -1,6 +1,6 @@
 // What is printed of an answer and of the buffers that were lent.
-use coding::Answer;
-use judge::Judged;
+use coding::{Answer, Refusal};
+use judge::Verdict;
 use records::say_refused;
 use std::io;
 use std::io::Write;
@@ -12,10 +12,14 @@ pub const ROOM: usize = 8192;
 const SHOWN: usize = 40;
 
 // The answer of a judging, with the positions in its list.
-pub fn say_judged<W: Write>(out: &mut W, answer: Judged, list: &[u8; ROOM]) -> io::Result<()> {
+pub fn say_judged<W: Write>(
+    out: &mut W,
+    answer: Result<Verdict, Refusal>,
+    list: &[u8; ROOM],
+) -> io::Result<()> {
     match answer {
-        Judged::Refused(cause, place) => say_refused(out, cause, place),
-        Judged::Verdict(holds, count) => {
+        Err(why) => say_refused(out, why),
+        Ok(Verdict { holds, count }) => {
             let verdict = if holds { "holds" } else { "fails" };
             write!(out, ": {verdict}, findings {count}")?;
             let (pairs, _) = list.as_chunks::<2>();
@@ -27,8 +31,8 @@ pub fn say_judged<W: Write>(out: &mut W, answer: Judged, list: &[u8; ROOM]) -> i
 // The answer of a translation, with its bytes.
 pub fn say_translated<W: Write>(out: &mut W, answer: Answer, bytes: &[u8; ROOM]) -> io::Result<()> {
     match answer {
-        Answer::Refused(cause, place) => say_refused(out, cause, place),
-        Answer::Count(n) => {
+        Err(why) => say_refused(out, why),
+        Ok(n) => {
             write!(out, ": accepted {n}")?;
             say_row(out, bytes, n, |byte| u16::from(*byte))
         }

@@ -1,5 +1,5 @@
 // What is printed of an answer and of the buffer that was lent.
-use run::Ran;
+use run::{Closed, Stop};
 use std::io;
 use std::io::Write;
 
@@ -10,17 +10,21 @@ pub const ROOM: usize = 20500;
 const SHOWN: usize = 16;
 
 // The answer of a run, with the first positions of its trace.
-pub fn say_ran<W: Write>(out: &mut W, answer: Ran, trace: &[u8; ROOM]) -> io::Result<()> {
+pub fn say_ran<W: Write>(
+    out: &mut W,
+    answer: Result<Closed, Stop>,
+    trace: &[u8; ROOM],
+) -> io::Result<()> {
     match answer {
-        Ran::Closed(n, start) => {
-            write!(out, ": closed {n} loop {start}, trace")?;
-            say_positions(out, trace, n.min(SHOWN))
+        Ok(Closed { positions, start }) => {
+            write!(out, ": closed {positions} loop {start}, trace")?;
+            say_positions(out, trace, positions.min(SHOWN))
         }
-        Ran::Halted(cause, scan, process) => {
+        Err(Stop::Halted(cause, scan, process)) => {
             let number = coding::number_of(cause);
             write!(out, ": halted {number} at {scan} process {process}")
         }
-        Ran::Refused(cause, place) => records::say_refused(out, cause, place),
+        Err(Stop::Refused(why)) => records::say_refused(out, why),
     }
 }
 
