@@ -97,6 +97,7 @@ pub fn uses_else(op: u16, guard: u16) -> bool
     guard != 0 && uses_nexts(op)
 }
 
+// `used` stays beside the number: docs/PROMISES.md names this function, and the definition next_ok takes it.
 #[tactic(auto, unfolding(crate::specs::Values::next_ok))]
 pub fn next_ok(spot: Spot, used: bool, v: u16) -> bool
     ensures { result ≡ next_ok spot used v }

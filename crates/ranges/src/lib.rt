@@ -112,7 +112,7 @@ pub enum Want {
 }
 
 // What a number leads to: another is wanted, it was the last, or it may not stand there.
-// No Result<Option<Want>, _>: the tests and theorems speak of these three answers side by side, and none is another's error.
+// It is no Result<Option<Want>, _>: tests and theorems speak of its three cases, and none is an error of another.
 #[derive(Clone, Copy)]
 pub enum Step {
     More(Want),
@@ -121,7 +121,7 @@ pub enum Step {
 }
 
 // The sources of so many outputs more, and then the tests.
-fn sources(shape: Shape, left: u16) -> Want
+fn sources_left(shape: Shape, left: u16) -> Want
     ensures { result ≡ pick (eqb left 0) (Want.Tests shape) (Want.Source shape left) }
 {
     if left == 0 {
@@ -131,8 +131,9 @@ fn sources(shape: Shape, left: u16) -> Want
     }
 }
 
-// So many tests more, and then the processes.
-fn tests(shape: Shape, left: u16) -> Want
+// So many tests more, and then the processes. Apart from sources_left: one function for both would take the two cases of
+// Want that each names, and be no plainer.
+fn tests_left(shape: Shape, left: u16) -> Want
     ensures { result ≡ pick (eqb left 0) (Want.Processes shape) (Want.Kind shape left) }
 {
     if left == 0 {
@@ -143,7 +144,7 @@ fn tests(shape: Shape, left: u16) -> Want
 }
 
 // So many readings more, and then nothing.
-fn readings(left: usize) -> Step
+fn readings_left(left: usize) -> Step
     ensures { result ≡ pick (eqb left 0) Step.Last (Step.More (Want.Reading left)) }
 {
     if left == 0 {
@@ -186,7 +187,7 @@ fn return_step(inputs: u16, scans: u16, v: u16) -> Step
     if scans <= v {
         Step::NotAllowed
     } else {
-        readings(usize::from(scans) * usize::from(inputs))
+        readings_left(usize::from(scans) * usize::from(inputs))
     }
 }
 
@@ -194,23 +195,26 @@ fn return_step(inputs: u16, scans: u16, v: u16) -> Step
 pub fn advance(most: u16, want: Want, v: u16) -> Step
     ensures { result ≡ step_of most want v }
 {
-    // One arm for each case of Want, so the match is as long as they are many.
+    // One arm for each case of Want, so the match is as long as they are many. The three that return may end with the
+    // last number.
     let next = match want {
         Want::Inputs => total_ok(0, 0, v).then_some(Want::Internals(v)),
         Want::Internals(inputs) => total_ok(inputs, 0, v).then_some(Want::Outputs(inputs, v)),
         Want::Outputs(inputs, internals) => {
             let shape = Shape::of_variables(inputs, internals, v);
-            total_ok(inputs, internals, v).then_some(sources(shape, v))
+            total_ok(inputs, internals, v).then_some(sources_left(shape, v))
         }
         Want::Source(shape, left) => {
-            is_internal(shape, v).then_some(sources(shape, left.saturating_sub(1)))
+            is_internal(shape, v).then_some(sources_left(shape, left.saturating_sub(1)))
         }
-        Want::Tests(shape) => { between(0, v, MOST_TESTS).then_some(tests(shape.with_tests(v), v)) }
+        Want::Tests(shape) => {
+            between(0, v, MOST_TESTS).then_some(tests_left(shape.with_tests(v), v))
+        }
         Want::Kind(shape, left) => between(0, v, 2).then_some(Want::TestA(shape, left, v)),
         Want::TestA(shape, left, kind) => {
             test_a_ok(shape, kind, v).then_some(Want::TestB(shape, left, kind, v))
         }
-        Want::TestB(shape, left, _, _) => Some(tests(shape, left.saturating_sub(1))),
+        Want::TestB(shape, left, _, _) => Some(tests_left(shape, left.saturating_sub(1))),
         Want::Processes(shape) => {
             between(1, v, most).then_some(Want::States(shape.with_processes(v), 1))
         }
@@ -239,7 +243,7 @@ pub fn advance(most: u16, want: Want, v: u16) -> Step
         Want::NextElse(shape, spot, op, guard) => return else_step(shape, spot, op, guard, v),
         Want::Scans(inputs) => between(1, v, MOST_SCANS).then_some(Want::Return(inputs, v)),
         Want::Return(inputs, scans) => return return_step(inputs, scans, v),
-        Want::Reading(left) => return readings(left.saturating_sub(1)),
+        Want::Reading(left) => return readings_left(left.saturating_sub(1)),
     };
     next.map_or(Step::NotAllowed, Step::More)
 }
