@@ -21,7 +21,8 @@ led true want h = h
 led false want h = h
 
 pub goes_on : {next : Option Want} {s : Step} {ok test : Bool} {want to : Want} →
-    MatchOption next (s ≡ NotAllowed) (λ w. s ≡ More w) → next ≡ then_some ok want → ok ≡ test → want ≡ to → s ≡ allowed test to
+    MatchOption next (s ≡ NotAllowed) (λ w. s ≡ More w) →
+    next ≡ then_some ok want → ok ≡ test → want ≡ to → s ≡ allowed test to
 goes_on h e t w = led _ _ (rw (e, t, w) at h)
 
 -- None is left after the last.

@@ -131,8 +131,8 @@ fn sources_left(shape: Shape, left: u16) -> Want
     }
 }
 
-// So many tests more, and then the processes. Apart from sources_left: one function for both would take the two cases of
-// Want that each names, and be no plainer.
+// So many tests more, and then the processes. Apart from sources_left: one function for both would take the two
+// cases of Want that each names, and be no plainer.
 fn tests_left(shape: Shape, left: u16) -> Want
     ensures { result ≡ pick (eqb left 0) (Want.Processes shape) (Want.Kind shape left) }
 {
