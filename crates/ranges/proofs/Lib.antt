@@ -1,4 +1,3 @@
 pub mod Steps
-pub mod Products
 pub mod Unique
 pub mod Examples

@@ -4,126 +4,104 @@ ghost use Rattle.ranges.specs.Values.{within, total_ok, is_internal, is_variable
 
 use crate::{LONGEST_BOUND, MOST_VARIABLES, Shape, Spot};
 
+#[tactic(auto, unfolding(crate::specs::Values::within))]
 pub fn between(lo: u16, v: u16, hi: u16) -> bool
     ensures { result ≡ within lo v hi }
 {
-    if v < lo {
-        return false;
-    }
-    if hi < v {
-        return false;
-    }
-    true
+    (lo..=hi).contains(&v)
 }
 
 // A further count of variables, where a and b are counted.
+#[tactic(auto, unfolding(crate::specs::Values::total_ok))]
 pub fn total_ok(a: u16, b: u16, c: u16) -> bool
     ensures { result ≡ total_ok a b c }
 {
-    a as u32 + b as u32 + c as u32 <= MOST_VARIABLES as u32
+    u32::from(a) + u32::from(b) + u32::from(c) <= u32::from(MOST_VARIABLES)
 }
 
+#[tactic(auto, unfolding(crate::specs::Values::is_internal))]
 pub fn is_internal(shape: Shape, v: u16) -> bool
     ensures { result ≡ is_internal shape v }
 {
-    let lo = shape.inputs as u32;
-    let hi = lo + shape.internals as u32;
-    let x = v as u32;
-    if x < lo {
-        return false;
-    }
-    x < hi
+    let first = u32::from(shape.inputs);
+    (first..first + u32::from(shape.internals)).contains(&u32::from(v))
 }
 
+#[tactic(auto, unfolding(crate::specs::Values::is_variable))]
 pub fn is_variable(shape: Shape, v: u16) -> bool
     ensures { result ≡ is_variable shape v }
 {
-    (v as u32) < shape.inputs as u32 + shape.internals as u32 + shape.outputs as u32
+    u32::from(v) < u32::from(shape.inputs) + u32::from(shape.internals) + u32::from(shape.outputs)
 }
 
+#[tactic(auto, unfolding(crate::specs::Values::test_a_ok))]
 pub fn test_a_ok(shape: Shape, kind: u16, v: u16) -> bool
     ensures { result ≡ test_a_ok shape kind v }
 {
-    if kind == 2 {
-        return true;
-    }
-    is_variable(shape, v)
+    kind == 2 || is_variable(shape, v)
 }
 
+#[tactic(auto, unfolding(crate::specs::Values::op_ok))]
 pub fn op_ok(spot: Spot, v: u16) -> bool
     ensures { result ≡ op_ok spot v }
 {
-    if v == 10 {
-        return spot.state < spot.states;
+    match v {
+        10 => spot.state < spot.states,
+        _ => between(1, v, 12),
     }
-    between(1, v, 12)
 }
 
+#[tactic(auto, unfolding(crate::specs::Values::x_ok, crate::specs::Values::within))]
 pub fn x_ok(shape: Shape, spot: Spot, op: u16, v: u16) -> bool
     ensures { result ≡ x_ok shape spot op v }
 {
-    if between(1, op, 3) {
-        return is_internal(shape, v);
+    match op {
+        1..=3 => is_internal(shape, v),
+        4 => between(1, v, LONGEST_BOUND),
+        6 | 7 => v != spot.process && between(1, v, shape.processes),
+        9 => between(1, v, spot.states),
+        _ => v == 0,
     }
-    if op == 4 {
-        return between(1, v, LONGEST_BOUND);
-    }
-    if between(6, op, 7) {
-        if v == spot.process {
-            return false;
-        }
-        return between(1, v, shape.processes);
-    }
-    if op == 9 {
-        return between(1, v, spot.states);
-    }
-    v == 0
 }
 
+#[tactic(auto, unfolding(crate::specs::Values::y_ok, crate::specs::Values::within))]
 pub fn y_ok(shape: Shape, op: u16, v: u16) -> bool
     ensures { result ≡ y_ok shape op v }
 {
-    if op == 2 {
-        return is_variable(shape, v);
+    match op {
+        1 | 3 => true,
+        2 => is_variable(shape, v),
+        _ => v == 0,
     }
-    if between(1, op, 3) {
-        return true;
-    }
-    v == 0
 }
 
+#[tactic(auto, unfolding(crate::specs::Values::uses_nexts, crate::specs::Values::within))]
 pub fn uses_nexts(op: u16) -> bool
     ensures { result ≡ uses_nexts op }
 {
-    if between(1, op, 4) {
-        return true;
-    }
-    between(6, op, 7)
+    matches!(op, 1..=4 | 6 | 7)
 }
 
+#[tactic(auto, unfolding(crate::specs::Values::guard_ok))]
 pub fn guard_ok(shape: Shape, op: u16, v: u16) -> bool
     ensures { result ≡ guard_ok shape op v }
 {
-    if uses_nexts(op) {
-        return v <= shape.tests;
-    }
-    v == 0
+    let most = if uses_nexts(op) { shape.tests } else { 0 };
+    v <= most
 }
 
+#[tactic(auto, unfolding(crate::specs::Values::uses_else))]
 pub fn uses_else(op: u16, guard: u16) -> bool
     ensures { result ≡ uses_else op guard }
 {
-    if guard == 0 {
-        return false;
-    }
-    uses_nexts(op)
+    guard != 0 && uses_nexts(op)
 }
 
+// `used` stays beside the number: docs/PROMISES.md names this function, and the definition next_ok takes it.
+#[tactic(auto, unfolding(crate::specs::Values::next_ok))]
 pub fn next_ok(spot: Spot, used: bool, v: u16) -> bool
     ensures { result ≡ next_ok spot used v }
 {
-    if used {
-        return v <= spot.actions;
-    }
-    v == 0
+    let most = if used { spot.actions } else { 0 };
+    v <= most
 }

@@ -3,8 +3,14 @@
 
 pub mod allowed;
 
-ghost use Rattle.std.specs.Prelude.{◌≡◌};
-ghost use Rattle.ranges.specs.Order.{allowed, at_sources, after_source, at_tests, after_test, after_action, step_of};
+ghost use Rattle.std.specs.Prelude.{◌≡◌, eqb};
+ghost use Rattle.ranges.specs.Order.{after_action, of_variables, with_tests, with_processes, step_of};
+ghost use Rattle.ranges.specs.Values.{pick};
+
+use allowed::{
+    between, guard_ok, is_internal, next_ok, op_ok, test_a_ok, total_ok, uses_else, uses_nexts,
+    x_ok, y_ok,
+};
 
 pub const MOST_VARIABLES: u16 = 32;
 
@@ -32,7 +38,8 @@ pub struct Shape {
     pub processes: u16,
 }
 
-// Where the walk through the processes stands, each counted from 1: the process, of so many states the state, of so many actions the action.
+// Where the walk through the processes stands, each counted from 1: the process, of so many states the state,
+// of so many actions the action.
 #[derive(Clone, Copy)]
 pub struct Spot {
     pub process: u16,
@@ -40,6 +47,37 @@ pub struct Spot {
     pub state: u16,
     pub actions: u16,
     pub action: u16,
+}
+
+impl Shape {
+    // The variables alone.
+    fn of_variables(inputs: u16, internals: u16, outputs: u16) -> Shape
+        ensures { result ≡ of_variables inputs internals outputs }
+    {
+        Shape {
+            inputs,
+            internals,
+            outputs,
+            tests: 0,
+            processes: 0,
+        }
+    }
+
+    fn with_tests(self, tests: u16) -> Shape
+        ensures { result ≡ with_tests self tests }
+    {
+        Shape {
+            tests,
+            processes: 0,
+            ..self
+        }
+    }
+
+    fn with_processes(self, processes: u16) -> Shape
+        ensures { result ≡ with_processes self processes }
+    {
+        Shape { processes, ..self }
+    }
 }
 
 // What number is wanted next, with all that decides whether it is allowed.
@@ -74,6 +112,7 @@ pub enum Want {
 }
 
 // What a number leads to: another is wanted, it was the last, or it may not stand there.
+// It is no Result<Option<Want>, _>: tests and theorems speak of its three cases, and none is an error of another.
 #[derive(Clone, Copy)]
 pub enum Step {
     More(Want),
@@ -81,181 +120,130 @@ pub enum Step {
     NotAllowed,
 }
 
-fn allow(ok: bool, want: Want) -> Step
-    ensures { result ≡ allowed ok want }
+// The sources of so many outputs more, and then the tests.
+fn sources_left(shape: Shape, left: u16) -> Want
+    ensures { result ≡ pick (eqb left 0) (Want.Tests shape) (Want.Source shape left) }
 {
-    if ok {
-        Step::More(want)
+    if left == 0 {
+        Want::Tests(shape)
     } else {
-        Step::NotAllowed
+        Want::Source(shape, left)
     }
 }
 
-fn at_sources(shape: Shape) -> Want
-    ensures { result ≡ at_sources shape }
+// So many tests more, and then the processes. Apart from sources_left: one function for both would take the two
+// cases of Want that each names, and be no plainer.
+fn tests_left(shape: Shape, left: u16) -> Want
+    ensures { result ≡ pick (eqb left 0) (Want.Processes shape) (Want.Kind shape left) }
 {
-    if shape.outputs == 0 {
-        return Want::Tests(shape);
+    if left == 0 {
+        Want::Processes(shape)
+    } else {
+        Want::Kind(shape, left)
     }
-    Want::Source(shape, shape.outputs)
 }
 
-fn after_source(shape: Shape, left: u16) -> Want
-    ensures { result ≡ after_source shape left }
+// So many readings more, and then nothing.
+fn readings_left(left: usize) -> Step
+    ensures { result ≡ pick (eqb left 0) Step.Last (Step.More (Want.Reading left)) }
 {
-    if left <= 1 {
-        return Want::Tests(shape);
+    if left == 0 {
+        Step::Last
+    } else {
+        Step::More(Want::Reading(left))
     }
-    Want::Source(shape, left - 1)
-}
-
-fn at_tests(shape: Shape) -> Want
-    ensures { result ≡ at_tests shape }
-{
-    if shape.tests == 0 {
-        return Want::Processes(shape);
-    }
-    Want::Kind(shape, shape.tests)
-}
-
-fn after_test(shape: Shape, left: u16) -> Want
-    ensures { result ≡ after_test shape left }
-{
-    if left <= 1 {
-        return Want::Processes(shape);
-    }
-    Want::Kind(shape, left - 1)
 }
 
 // After an action: the next action of the body, the next state, the next process, or nothing.
+#[tactic(auto, unfolding(crate::specs::Order::after_action))]
 fn after_action(shape: Shape, spot: Spot) -> Step
     ensures { result ≡ after_action shape spot }
 {
     if spot.action < spot.actions {
-        let mut next = spot;
-        next.action = spot.action + 1;
-        return Step::More(Want::Op(shape, next));
+        let action = spot.action + 1;
+        Step::More(Want::Op(shape, Spot { action, ..spot }))
+    } else if spot.state < spot.states {
+        Step::More(Want::Actions(shape, spot.process, spot.states, spot.state + 1))
+    } else if spot.process < shape.processes {
+        Step::More(Want::States(shape, spot.process + 1))
+    } else {
+        Step::Last
     }
-    if spot.state < spot.states {
-        return Step::More(Want::Actions(shape, spot.process, spot.states, spot.state + 1));
-    }
-    if spot.process < shape.processes {
-        return Step::More(Want::States(shape, spot.process + 1));
-    }
-    Step::Last
-}
-
-fn outputs_step(inputs: u16, internals: u16, v: u16) -> Step
-    ensures { result ≡ step_of 0 (Want.Outputs inputs internals) v }
-{
-    let shape = Shape {
-        inputs: inputs,
-        internals: internals,
-        outputs: v,
-        tests: 0,
-        processes: 0,
-    };
-    allow(allowed::total_ok(inputs, internals, v), at_sources(shape))
-}
-
-fn tests_step(shape: Shape, v: u16) -> Step
-    ensures { result ≡ step_of 0 (Want.Tests shape) v }
-{
-    let mut next = shape;
-    next.tests = v;
-    next.processes = 0;
-    allow(allowed::between(0, v, MOST_TESTS), at_tests(next))
-}
-
-fn processes_step(most: u16, shape: Shape, v: u16) -> Step
-    ensures { result ≡ step_of most (Want.Processes shape) v }
-{
-    let mut next = shape;
-    next.processes = v;
-    allow(allowed::between(1, v, most), Want::States(next, 1))
-}
-
-fn actions_step(shape: Shape, process: u16, states: u16, state: u16, v: u16) -> Step
-    ensures { result ≡ step_of 0 (Want.Actions shape process states state) v }
-{
-    let spot = Spot {
-        process: process,
-        states: states,
-        state: state,
-        actions: v,
-        action: 1,
-    };
-    allow(allowed::between(1, v, MOST_ACTIONS), Want::Op(shape, spot))
 }
 
 fn else_step(shape: Shape, spot: Spot, op: u16, guard: u16, v: u16) -> Step
     ensures { result ≡ step_of 0 (Want.NextElse shape spot op guard) v }
 {
-    if allowed::next_ok(spot, allowed::uses_else(op, guard), v) {
-        return after_action(shape, spot);
+    if next_ok(spot, uses_else(op, guard), v) {
+        after_action(shape, spot)
+    } else {
+        Step::NotAllowed
     }
-    Step::NotAllowed
 }
 
 fn return_step(inputs: u16, scans: u16, v: u16) -> Step
     ensures { result ≡ step_of 0 (Want.Return inputs scans) v }
 {
     if scans <= v {
-        return Step::NotAllowed;
+        Step::NotAllowed
+    } else {
+        readings_left(usize::from(scans) * usize::from(inputs))
     }
-    let readings = (scans as usize) * (inputs as usize);
-    if readings == 0 {
-        return Step::Last;
-    }
-    Step::More(Want::Reading(readings))
-}
-
-fn reading_step(left: usize, v: u16) -> Step
-    ensures { result ≡ step_of 0 (Want.Reading left) v }
-{
-    if left <= 1 {
-        return Step::Last;
-    }
-    let fewer = left - 1;
-    Step::More(Want::Reading(fewer))
 }
 
 // What the number v leads to where `want` is wanted, if a table may have `most` processes.
 pub fn advance(most: u16, want: Want, v: u16) -> Step
     ensures { result ≡ step_of most want v }
 {
-    match want {
-        Want::Inputs => allow(allowed::total_ok(0, 0, v), Want::Internals(v)),
-        Want::Internals(i) => allow(allowed::total_ok(i, 0, v), Want::Outputs(i, v)),
-        Want::Outputs(i, m) => outputs_step(i, m, v),
-        Want::Source(sh, left) => allow(allowed::is_internal(sh, v), after_source(sh, left)),
-        Want::Tests(sh) => tests_step(sh, v),
-        Want::Kind(sh, left) => allow(allowed::between(0, v, 2), Want::TestA(sh, left, v)),
-        Want::TestA(sh, left, kind) => allow(
-            allowed::test_a_ok(sh, kind, v),
-            Want::TestB(sh, left, kind, v),
-        ),
-        Want::TestB(sh, left, _, _) => Step::More(after_test(sh, left)),
-        Want::Processes(sh) => processes_step(most, sh, v),
-        Want::States(sh, p) => allow(
-            allowed::between(1, v, MOST_STATES),
-            Want::Actions(sh, p, v, 1),
-        ),
-        Want::Actions(sh, p, n, s) => actions_step(sh, p, n, s, v),
-        Want::Op(sh, spot) => allow(allowed::op_ok(spot, v), Want::X(sh, spot, v)),
-        Want::X(sh, spot, op) => allow(allowed::x_ok(sh, spot, op, v), Want::Y(sh, spot, op)),
-        Want::Y(sh, spot, op) => allow(allowed::y_ok(sh, op, v), Want::Guard(sh, spot, op)),
-        Want::Guard(sh, spot, op) => allow(
-            allowed::guard_ok(sh, op, v),
-            Want::NextIf(sh, spot, op, v),
-        ),
-        Want::NextIf(sh, spot, op, g) => allow(
-            allowed::next_ok(spot, allowed::uses_nexts(op), v),
-            Want::NextElse(sh, spot, op, g),
-        ),
-        Want::NextElse(sh, spot, op, g) => else_step(sh, spot, op, g, v),
-        Want::Scans(inputs) => allow(allowed::between(1, v, MOST_SCANS), Want::Return(inputs, v)),
-        Want::Return(inputs, scans) => return_step(inputs, scans, v),
-        Want::Reading(left) => reading_step(left, v),
-    }
+    // One arm for each case of Want, so the match is as long as they are many. The three that return may end with the
+    // last number.
+    let next = match want {
+        Want::Inputs => total_ok(0, 0, v).then_some(Want::Internals(v)),
+        Want::Internals(inputs) => total_ok(inputs, 0, v).then_some(Want::Outputs(inputs, v)),
+        Want::Outputs(inputs, internals) => {
+            let shape = Shape::of_variables(inputs, internals, v);
+            total_ok(inputs, internals, v).then_some(sources_left(shape, v))
+        }
+        Want::Source(shape, left) => {
+            is_internal(shape, v).then_some(sources_left(shape, left.saturating_sub(1)))
+        }
+        Want::Tests(shape) => {
+            between(0, v, MOST_TESTS).then_some(tests_left(shape.with_tests(v), v))
+        }
+        Want::Kind(shape, left) => between(0, v, 2).then_some(Want::TestA(shape, left, v)),
+        Want::TestA(shape, left, kind) => {
+            test_a_ok(shape, kind, v).then_some(Want::TestB(shape, left, kind, v))
+        }
+        Want::TestB(shape, left, _, _) => Some(tests_left(shape, left.saturating_sub(1))),
+        Want::Processes(shape) => {
+            between(1, v, most).then_some(Want::States(shape.with_processes(v), 1))
+        }
+        Want::States(shape, process) => {
+            between(1, v, MOST_STATES).then_some(Want::Actions(shape, process, v, 1))
+        }
+        Want::Actions(shape, process, states, state) => {
+            let spot = Spot {
+                process,
+                states,
+                state,
+                actions: v,
+                action: 1,
+            };
+            between(1, v, MOST_ACTIONS).then_some(Want::Op(shape, spot))
+        }
+        Want::Op(shape, spot) => op_ok(spot, v).then_some(Want::X(shape, spot, v)),
+        Want::X(shape, spot, op) => x_ok(shape, spot, op, v).then_some(Want::Y(shape, spot, op)),
+        Want::Y(shape, spot, op) => y_ok(shape, op, v).then_some(Want::Guard(shape, spot, op)),
+        Want::Guard(shape, spot, op) => {
+            guard_ok(shape, op, v).then_some(Want::NextIf(shape, spot, op, v))
+        }
+        Want::NextIf(shape, spot, op, guard) => {
+            next_ok(spot, uses_nexts(op), v).then_some(Want::NextElse(shape, spot, op, guard))
+        }
+        Want::NextElse(shape, spot, op, guard) => return else_step(shape, spot, op, guard, v),
+        Want::Scans(inputs) => between(1, v, MOST_SCANS).then_some(Want::Return(inputs, v)),
+        Want::Return(inputs, scans) => return return_step(inputs, scans, v),
+        Want::Reading(left) => return readings_left(left.saturating_sub(1)),
+    };
+    next.map_or(Step::NotAllowed, Step::More)
 }

@@ -1,6 +1,0 @@
-use mathlib.Core.Path.{refl}
-use Rattle.ranges.proofs.Steps.{goes_on}
-use Rattle.ranges.proofs.actions_step.Goals as goal
-
-pub returns : goal.returns
-returns c = goes_on c.allow.ensures c.between.ensures refl
