@@ -10,3 +10,4 @@ pub mod Unique
 pub mod OneEach
 pub mod Examples
 pub mod Refusing
+pub mod Blocks

@@ -8,11 +8,14 @@ use borrow.Fn.Kinds.{Dens, ended_of}
 use denote.Triple.Clauses.{AtExit}
 use Rattle.coding.specs.declared.Refusal.{Refusal}
 use Rattle.coding.specs.Refusal.{NumberRead, Answer}
+use Rattle.coding.specs.Block.{BlockAt}
 use Rattle.coding.proofs.Unique.{one_answer, one_storing}
 use Rattle.coding.proofs.number_of.Kinds as number_of
 use Rattle.coding.proofs.number_of.Reads as number_of_reads
 use Rattle.coding.proofs.read_number.Kinds as read_number
 use Rattle.coding.proofs.read_number.Reads as read_number_reads
+use Rattle.coding.proofs.block_at.Kinds as block_at
+use Rattle.coding.proofs.block_at.Reads as block_at_reads
 use Rattle.coding.proofs.size_of.Kinds as size_of
 use Rattle.coding.proofs.size_of.Reads as size_of_reads
 use Rattle.coding.proofs.write_number.Kinds as write_number
@@ -55,6 +58,10 @@ module _ (κs : Lfts 1) where
   pub read_number_unique : (r t : NumberRead) (a : Dens κs read_number.ps) (e f : AtExit (ended_of 1 read_number.ps read_number.r) κs) →
       read_number_reads.Post κs a r e → read_number_reads.Post κs a t f → r ≡ t
   read_number_unique r t a e f = one_answer
+
+  pub block_at_unique : (r t : BlockAt) (a : Dens κs block_at.ps) (e f : AtExit (ended_of 1 block_at.ps block_at.r) κs) →
+      block_at_reads.Post κs a r e → block_at_reads.Post κs a t f → r ≡ t
+  block_at_unique r t a e f = one_answer
 
   pub byte_number_at_unique : (r t : NumberRead) (a : Dens κs byte_number_at.ps) (e f : AtExit (ended_of 1 byte_number_at.ps byte_number_at.r) κs) →
       byte_number_at_reads.Post κs a r e → byte_number_at_reads.Post κs a t f → r ≡ t

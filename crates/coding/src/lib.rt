@@ -7,6 +7,7 @@ ghost use Rattle.std.specs.Prelude.{◌≡◌, ◌+◌, ◌≤◌, length};
 ghost use Rattle.coding.specs.Refusal.{number_of};
 ghost use Rattle.coding.specs.Number.{number_at, bytes_of};
 ghost use Rattle.coding.specs.Code.{code_at, values, bytes_of_all};
+ghost use Rattle.coding.specs.Block.{block_at};
 ghost use Rattle.coding.specs.Room.{over, settled, resized, stored, wrote_number};
 
 pub use source::Source;
@@ -42,6 +43,13 @@ pub struct Refusal {
 pub struct Number {
     pub value: u16,
     pub next: usize,
+}
+
+// Where a part of some bytes begins and ends.
+#[derive(Clone, Copy, Debug, PartialEq, Eq)]
+pub struct Span {
+    pub begin: usize,
+    pub end: usize,
 }
 
 // What a reader, a writer or a check of a whole code answers: how many numbers or bytes, or a refusal.
@@ -131,6 +139,23 @@ pub fn read_number(code: &[u8], at: usize) -> Result<Number, Refusal>
     Ok(Number {
         value: three,
         next: next,
+    })
+}
+
+// The block whose length stands at a place: so many bytes behind it.
+pub fn block_at(code: &[u8], at: usize) -> Result<Span, Refusal>
+    ensures { result ≡ block_at code.now at }
+{
+    let length = read_number(code, at)?;
+    let begin = length.next;
+    let size = length.value as usize;
+    let left = code.len() - begin;
+    if left < size {
+        return Err(Cause::CutShort.at(at));
+    }
+    Ok(Span {
+        begin,
+        end: begin + size,
     })
 }
 

@@ -18,11 +18,10 @@ ghost use Rattle.judge.specs.Judging.{checks_of, judged_told};
 ghost use Rattle.run.specs.Trace.{numbers_in, run_of, left_in, ran_told};
 ghost use Rattle.interface.specs.Calls.{kind_of, told_by, read_told, read_leaves, write_told, write_leaves, translate_leaves, JudgesTold};
 
-use coding::{Number, Refusal, Told};
+use coding::{Number, Refusal, Span, Told};
 use judge::Verdict;
 use requirement::{Checked, Kind};
 use run::{Closed, Stop};
-use sheet::Span;
 
 // What is told of an accepted answer: two numbers.
 trait Accepted: Copy {

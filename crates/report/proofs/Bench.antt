@@ -18,7 +18,8 @@ use Rattle.marked.specs.Marked.{bench_bytes, answered}
 use Rattle.marked.proofs.Cases.{shown, verdict_shown}
 use Rattle.endless.specs.Bench.{bench_table, bench_inputs}
 use Rattle.endless.proofs.Bench.{bench_run}
-use Rattle.report.specs.Framing.{block_at, framing_of, between, blocks_from}
+use Rattle.report.specs.Framing.{framing_of, between, blocks_from}
+use Rattle.coding.specs.Block.{block_at}
 use Rattle.report.specs.Lines.{digits, at_line, positions_line, count_line, at_lines, answer_lines}
 use Rattle.report.specs.Reporting.{Reports, work_room, list_room}
 use Rattle.report.specs.Bench.{bench_requirement, bench_input, bench_text}

@@ -9,15 +9,17 @@ use mathlib.Core.Bool.{Bool, true, false}
 use mathlib.Core.List.{List, [], ◌++◌, append_assoc, append-nil}
 use lib.ListN.{length, get_or, take, drop, length-append, length-drop, take-append-drop, drop_of_length-le}
 use lib.Seq.{drop-append_seam, take-append_seam, drop-drop, get_or-drop, length-take-le}
-use lib.Dec.{ltb}
-use borrow.Author.Tests.{ltb-false}
+use lib.Dec.{ltb, leb}
+use borrow.Author.Tests.{ltb-false, leb-true}
 use Rattle.coding.specs.Refusal.{value_then, refused_at}
 use Rattle.std.specs.Prelude.{Ok, Err}
 use Rattle.coding.specs.Number.{pick, bytes_of, first, Begin, number, none, placed, number_at}
 use Rattle.coding.specs.declared.Cause.TheVariants.{CutShort, LeftOver}
 use Rattle.coding.proofs.Trip.{read_written, written_read, Begins}
-use Rattle.report.proofs.Splitting.{block_by, whole_block, all_blocks, by_third, by_second, short_input}
-use Rattle.report.specs.Framing.{longest_input, block_at, with_third, with_second, with_first, framing_of, between, BlockAt, Framing, block_from, blocks_from}
+use Rattle.coding.proofs.Blocks.{block_whole}
+use Rattle.report.proofs.Splitting.{all_blocks, by_third, by_second, short_input}
+use Rattle.report.specs.Framing.{longest_input, with_third, with_second, with_first, framing_of, between, Framing, blocks_from}
+use Rattle.coding.specs.Block.{block_of, block_at, BlockAt, span_from}
 use Rattle.report.specs.MadeUp.{block_bytes, blocks_bytes, MadeUp, Names}
 
 -- ---- a block that was put there is found, and is what is cut out
@@ -46,10 +48,10 @@ module _ (s front b behind : List ℕ) (at : ℕ) (e : s ≡ front ++ (block_byt
   unfolding number_at
   length_there small = rw (from_block, read_written (length b) (b ++ behind) small)
 
-  block_found : length b < 65536 → block_from (at + size_of b) (at + length (block_bytes b)) ≡ block_at s at
+  block_found : length b < 65536 → span_from (at + size_of b) (at + length (block_bytes b)) ≡ block_at s at
   block_found small =
       let sum : at + length (block_bytes b) ≡ at + size_of b + length b = omega (arith, block_length b) in
-      rw sum (whole_block s at (length b) (at + size_of b) (length_there small) room_left)
+      rw sum (block_whole s at (length b) (at + size_of b) (length_there small) room_left)
 
   block_cut : between (at + size_of b) (at + length (block_bytes b)) s ≡ b
   unfolding between
@@ -150,13 +152,13 @@ module _ (s : List ℕ) (bytes : (i : ℕ) → get_or s i 0 < 256) where
   unfolding block_at number_at
   taking at = go (first (drop at s)) (written_read (drop at s) (λ i. rw get_or-drop (bytes (at + i))))
     where
-      sized : (n k : ℕ) (t : Bool) → ltb (length s - (at + k)) n ≡ t → drop at s ≡ bytes_of n ++ drop k (drop at s) →
-          Taking s at (pick t (refused_at CutShort at) (block_from (at + k) (at + k + n)))
-      sized n k true f e = tt
-      sized n k false f e = cut_whole at n k (ltb-false _ _ f) e
+      sized : (n k : ℕ) (t : Bool) → leb (at + k + n) (length s) ≡ t → drop at s ≡ bytes_of n ++ drop k (drop at s) →
+          Taking s at (pick t (span_from (at + k) (at + k + n)) (refused_at CutShort at))
+      sized n k true f e = cut_whole at n k (let h = leb-true _ _ f in omega arith) e
+      sized n k false f e = tt
 
-      go : (x : Begin) → Begins (drop at s) x → Taking s at (block_by s at (placed at x))
-      go (number n k) h = sized n k (ltb (length s - (at + k)) n) refl h.1
+      go : (x : Begin) → Begins (drop at s) x → Taking s at (block_of s at (placed at x))
+      go (number n k) h = sized n k (leb (at + k + n) (length s)) refl h.1
       go (none cause) h = tt
 
   module _ (most : length s ≤ 60000) where

@@ -1,11 +1,11 @@
 -- The program never prints 9, 10 or 11: what it prints is a refusal by 1 to 8, or the answer for an accepted input.
 -- Assumes nothing.
-use Prim.Native.Nat.{ℕ, ◌-◌}
+use Prim.Native.Nat.{ℕ, ◌+◌}
 use native.Mathlib.Omega.{arith}
 use mathlib.Core.Path.{◌≡◌, refl}
 use mathlib.Core.List.{List}
 use lib.ListN.{length}
-use lib.Dec.{ltb}
+use lib.Dec.{ltb, leb}
 use Rattle.run.specs.declared.Stop.TheVariants.{Halted, Refused}
 use Rattle.run.specs.Running.{Ran, closes_at}
 use Rattle.std.specs.Prelude.{Ok, Err}
@@ -20,11 +20,12 @@ use Rattle.requirement.specs.Reading.{Parsed, whole, unread, parsed}
 use Rattle.requirement.specs.declared.Kind.TheVariants.{Untranslated}
 use Rattle.run.specs.Limits.{trace_room}
 use Rattle.run.specs.Trace.{trace_bytes, numbers_in, run_of}
-use Rattle.report.specs.Framing.{longest_input, block_at, with_third, with_second, with_first, framing_of, between, BlockAt, Framing}
+use Rattle.report.specs.Framing.{longest_input, with_third, with_second, with_first, framing_of, between, Framing}
+use Rattle.coding.specs.Block.{block_at, BlockAt}
 use Rattle.report.specs.Reporting.{OfRun, OfBlocks, Reports}
 use Rattle.report.specs.MadeUp.{Names}
 use Rattle.report.specs.Printed.{AcceptedInput, AnswerFor, Printed, refused, answered}
-use Rattle.report.proofs.Splitting.{block_by}
+use Rattle.coding.specs.Block.{block_of}
 use Rattle.report.proofs.Enough.{unread_stops, closed_goes}
 
 -- ---- "a faulty length, a block cut short or left-over bytes is refusal 1"
@@ -41,8 +42,8 @@ module _ (s : List ℕ) where
   unfolding block_at
   block_one at = go (number_at s at) (number_one s at)
     where
-      go : (x : NumberRead) → OneNumber x → OneBlock (block_by s at x)
-      go (Ok num) o = by_test OneBlock (ltb (length s - num.next) num.value) _ _ refl tt
+      go : (x : NumberRead) → OneNumber x → OneBlock (block_of s at x)
+      go (Ok num) o = by_test OneBlock (leb (num.next + num.value) (length s)) _ _ tt refl
       go (Err why) o = o
 
   third_one : (a b c d : ℕ) (x : BlockAt) → OneBlock x → OneFramed (with_third s a b c d x)

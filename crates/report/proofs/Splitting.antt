@@ -1,50 +1,24 @@
 -- The ways through the framing of an input, and that the blocks it names lie inside the input.
 -- Assumes nothing.
-use Prim.Native.Nat.{ℕ, ◌+◌, ◌-◌, ◌≤◌, ◌<◌}
+use Prim.Native.Nat.{ℕ, ◌+◌, ◌≤◌, ◌<◌}
 use native.Mathlib.Omega.{arith}
 use mathlib.Core.Path.{◌≡◌, refl}
 use mathlib.Core.List.{List}
 use mathlib.Core.Bool.{Bool, true, false}
 use lib.ListN.{length}
-use lib.Dec.{ltb}
-use borrow.Author.Tests.{lt-ltb, le-ltb, ltb-false}
-use Rattle.coding.specs.Refusal.{NumberRead, value_then, refused_at}
+use lib.Dec.{ltb, leb}
+use borrow.Author.Tests.{lt-ltb, le-ltb, leb-true}
+use Rattle.coding.specs.Refusal.{NumberRead, refused_at}
 use Rattle.std.specs.Prelude.{Ok, Err}
 use Rattle.coding.specs.Number.{pick, number_at}
 use Rattle.coding.specs.declared.Cause.{Cause}
 use Rattle.coding.specs.declared.Cause.TheVariants.{CutShort, LeftOver}
-use Rattle.coding.specs.Working.Rows.{Row, row, next_row}
-use Rattle.report.specs.Framing.{block_at, with_third, with_second, with_first, framing_of, BlockAt, Framing, block_from, blocks_from}
-
--- What is said of a block, by what its length is read as.
-abbrev pub block_by : List ℕ → ℕ → NumberRead → BlockAt
-block_by s at x =
-    elim x [
-      | Ok num ↦ pick (ltb (length s - num.next) num.value) (refused_at CutShort at) (block_from num.next (num.next + num.value))
-      | Err why ↦ Err why
-    ]
-
--- ---- the ways through `block_at`
-module _ (s : List ℕ) (at : ℕ) where
-  pub no_length : (cause : Cause) (q : ℕ) → refused_at cause q ≡ number_at s at → refused_at cause q ≡ block_at s at
-  unfolding block_at
-  no_length cause q e = rw (block_at, ← e)
-
-  module _ (n next : ℕ) (e : value_then n next ≡ number_at s at) where
-    pub length_inside : next ≤ length s
-    length_inside = (next_row s at n next e).2
-
-    pub cut_block : length s - next < n → refused_at CutShort at ≡ block_at s at
-    unfolding block_at
-    cut_block h = rw (block_at, ← e, lt-ltb _ _ h)
-
-    pub whole_block : n ≤ length s - next → block_from next (next + n) ≡ block_at s at
-    unfolding block_at
-    whole_block h = rw (block_at, ← e, le-ltb _ _ h)
+use Rattle.report.specs.Framing.{with_third, with_second, with_first, framing_of, Framing, blocks_from}
+use Rattle.coding.specs.Block.{block_of, block_at, BlockAt, span_from}
 
 -- ---- the ways through the three blocks
 module _ (s : List ℕ) (a b c d : ℕ) where
-  module _ (x : BlockAt) (e f : ℕ) (found : block_from e f ≡ x) where
+  module _ (x : BlockAt) (e f : ℕ) (found : span_from e f ≡ x) where
     pub left_over : f < length s → refused_at LeftOver f ≡ with_third s a b c d x
     left_over h = rw (← found, lt-ltb _ _ h)
 
@@ -58,7 +32,7 @@ module _ (s : List ℕ) (a b : ℕ) (x : BlockAt) where
   pub no_second : (cause : Cause) (q : ℕ) → refused_at cause q ≡ x → refused_at cause q ≡ with_second s a b x
   no_second cause q e = rw (← e)
 
-  pub by_third : (c d : ℕ) (r : Framing) → block_from c d ≡ x → r ≡ with_third s a b c d (block_at s d) → r ≡ with_second s a b x
+  pub by_third : (c d : ℕ) (r : Framing) → span_from c d ≡ x → r ≡ with_third s a b c d (block_at s d) → r ≡ with_second s a b x
   by_third c d r e h = rw (← e) h
 
 module _ (s : List ℕ) where
@@ -73,7 +47,7 @@ module _ (s : List ℕ) where
   pub no_first : (cause : Cause) (q : ℕ) → refused_at cause q ≡ block_at s 0 → refused_at cause q ≡ with_first s (block_at s 0)
   no_first cause q e = rw (← e)
 
-  pub by_second : (a b : ℕ) (r : Framing) → block_from a b ≡ block_at s 0 → r ≡ with_second s a b (block_at s b) → r ≡ with_first s (block_at s 0)
+  pub by_second : (a b : ℕ) (r : Framing) → span_from a b ≡ block_at s 0 → r ≡ with_second s a b (block_at s b) → r ≡ with_first s (block_at s 0)
   by_second a b r e g = rw (← e) g
 
 -- ---- what is named lies inside
@@ -88,15 +62,16 @@ AllInside s (Err why) = Unit {0}
 module _ (s : List ℕ) where
   inside : (at : ℕ) → Inside s (block_at s at)
   unfolding block_at
-  inside at = go (number_at s at) (row s at)
+  inside at = go (number_at s at)
     where
-      sized : (n next : ℕ) (t : Bool) → ltb (length s - next) n ≡ t → next ≤ length s → Inside s (pick t (refused_at CutShort at) (block_from next (next + n)))
-      sized n next true e l = tt
-      sized n next false e l = let h = ltb-false (length s - next) n e in (omega arith, omega arith)
+      sized : (n next : ℕ) (t : Bool) → leb (next + n) (length s) ≡ t →
+          Inside s (pick t (span_from next (next + n)) (refused_at CutShort at))
+      sized n next true e = (omega arith, leb-true _ _ e)
+      sized n next false e = tt
 
-      go : (x : NumberRead) → Row s at x → Inside s (block_by s at x)
-      go (Ok num) r = sized num.value num.next (ltb (length s - num.next) num.value) refl r.2
-      go (Err why) r = tt
+      go : (x : NumberRead) → Inside s (block_of s at x)
+      go (Ok num) = sized num.value num.next (leb (num.next + num.value) (length s)) refl
+      go (Err why) = tt
 
   third_inside : (a b c d : ℕ) → (a ≤ b) × (b ≤ length s) → (c ≤ d) × (d ≤ length s) → (x : BlockAt) → Inside s x → AllInside s (with_third s a b c d x)
   third_inside a b c d p q (Err why) r = tt

@@ -2,19 +2,12 @@
 -- the coding. First, input over 60,000 bytes is refusal 1 at 60,000, then a faulty length, a block cut short or left-over bytes is refusal 1, placed in the whole input".
 -- Assumes nothing: these are definitions.
 use Rattle.coding.specs.Refusal.{refused_at}
-use Rattle.std.specs.Prelude.{ℕ, ◌+◌, ◌-◌, List, length, take, drop, ltb, Ok, Err, Result}
+use Rattle.std.specs.Prelude.{ℕ, ◌-◌, List, length, take, drop, ltb, Ok, Err, Result}
 use Rattle.coding.specs.declared.Refusal.{Refusal}
-use Rattle.report.specs.declared.framing.Block.{Block}
+use Rattle.coding.specs.Block.{BlockAt, block_at}
 use Rattle.report.specs.declared.framing.Blocks.{Blocks}
-use Rattle.coding.specs.Number.{pick, number_at}
+use Rattle.coding.specs.Number.{pick}
 use Rattle.coding.specs.declared.Cause.TheVariants.{CutShort, LeftOver}
-
--- A block: where it begins and ends, or what is wrong.
-abbrev pub BlockAt : Type 0
-BlockAt = Result Block Refusal
-
-abbrev pub block_from : ℕ → ℕ → BlockAt
-block_from begin end = Ok (record { begin = begin; end = end })
 
 -- Where the table, the inputs and the requirement begin and end, or what is wrong.
 abbrev pub Framing : Type 0
@@ -26,14 +19,6 @@ blocks_from a b c d e f =
 
 abbrev pub longest_input : ℕ
 longest_input = 60000
-
--- The block whose length stands at a place: "a text or block cut short at its length's first byte".
-unfoldable pub block_at : List ℕ → ℕ → BlockAt
-block_at s at =
-    elim (number_at s at) [
-      | Ok num ↦ pick (ltb (length s - num.next) num.value) (refused_at CutShort at) (block_from num.next (num.next + num.value))
-      | Err why ↦ Err why
-    ]
 
 -- "left-over bytes at the first of them"
 abbrev pub with_third : List ℕ → ℕ → ℕ → ℕ → ℕ → BlockAt → Framing

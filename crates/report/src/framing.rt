@@ -1,51 +1,28 @@
 // The three blocks of an input.
 ghost use Rattle.std.specs.Prelude.{◌≡◌};
-ghost use Rattle.report.specs.Framing.{block_at, with_first, framing_of};
+ghost use Rattle.coding.specs.Block.{block_at};
+ghost use Rattle.report.specs.Framing.{with_first, framing_of};
 
-use coding::{Cause, Refusal};
+use coding::{Cause, Refusal, Span};
 
 // The most bytes that an input may have.
 const LONGEST_INPUT: usize = 60000;
 
-// Where a block begins and ends.
-#[derive(Clone, Copy)]
-pub struct Block {
-    pub begin: usize,
-    pub end: usize,
-}
-
 // Where the table, the inputs and the requirement stand.
 #[derive(Clone, Copy)]
 pub struct Blocks {
-    pub table: Block,
-    pub inputs: Block,
-    pub requirement: Block,
-}
-
-// The block whose length stands at a place.
-fn block_at(input: &[u8], at: usize) -> Result<Block, Refusal>
-    ensures { result ≡ block_at input.now at }
-{
-    let length = coding::read_number(input, at)?;
-    let begin = length.next;
-    let size = length.value as usize;
-    let left = input.len() - begin;
-    if left < size {
-        return Err(Cause::CutShort.at(at));
-    }
-    Ok(Block {
-        begin,
-        end: begin + size,
-    })
+    pub table: Span,
+    pub inputs: Span,
+    pub requirement: Span,
 }
 
 // All three, one behind another, and nothing behind them.
 fn three_blocks(input: &[u8]) -> Result<Blocks, Refusal>
     ensures { result ≡ with_first input.now (block_at input.now 0) }
 {
-    let table = block_at(input, 0)?;
-    let inputs = block_at(input, table.end)?;
-    let requirement = block_at(input, inputs.end)?;
+    let table = coding::block_at(input, 0)?;
+    let inputs = coding::block_at(input, table.end)?;
+    let requirement = coding::block_at(input, inputs.end)?;
     if requirement.end < input.len() {
         return Err(Cause::LeftOver.at(requirement.end));
     }

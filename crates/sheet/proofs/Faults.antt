@@ -11,7 +11,8 @@ use Rattle.std.specs.Prelude.{Ok, Err}
 use Rattle.coding.specs.Number.{Begin, number, none as no_number, first, second, third, placed, number_at}
 use Rattle.coding.specs.declared.Cause.{Cause}
 use Rattle.coding.specs.declared.Cause.TheVariants.{CutShort, NotShortest, TooLarge, LeftOver, NotAllowed, NameAbsent}
-use Rattle.sheet.specs.Sheet.{longest_name, text_of, text_at, name_of, name_at, body_after, entry_of, entry_at, check_entry, check_from, TextAt, EntryAt}
+use Rattle.sheet.specs.Sheet.{longest_name, name_of, name_at, body_after, entry_of, entry_at, check_entry, check_from, EntryAt}
+use Rattle.coding.specs.Block.{block_of, block_at, BlockAt}
 use Rattle.sheet.proofs.Laws.{by}
 
 abbrev pub NotAbsent : Cause → Type 0
@@ -63,15 +64,15 @@ module _ (s : List ℕ) where
       go (number v k) h = tt
       go (no_number cause) h = h
 
-  abbrev TextFault : TextAt → Type 0
+  abbrev TextFault : BlockAt → Type 0
   TextFault (Ok span) = Unit {0}
   TextFault (Err why) = NotAbsent why.cause
 
-  text_fault : (at : ℕ) → TextFault (text_at s at)
-  unfolding text_at
+  text_fault : (at : ℕ) → TextFault (block_at s at)
+  unfolding block_at
   text_fault at = go (number_at s at) (number_fault at)
     where
-      go : (m : NumberRead) → NumberFault m → TextFault (text_of s at m)
+      go : (m : NumberRead) → NumberFault m → TextFault (block_of s at m)
       go (Ok num) h = by TextFault (leb (num.next + num.value) (length s)) (λ t. tt) (λ t. cut_short)
       go (Err why) h = h
 
@@ -93,12 +94,12 @@ module _ (s : List ℕ) where
   unfolding entry_at
   entry_fault at = named (name_at s at) (name_fault at)
     where
-      bodied : (begin end : ℕ) (t : TextAt) → TextFault t → EntryFault (body_after begin end t)
+      bodied : (begin end : ℕ) (t : BlockAt) → TextFault t → EntryFault (body_after begin end t)
       bodied begin end (Ok span) h = tt
       bodied begin end (Err why) h = h
 
-      named : (t : TextAt) → TextFault t → EntryFault (entry_of s t)
-      named (Ok span) h = bodied span.begin span.end (text_at s span.end) (text_fault span.end)
+      named : (t : BlockAt) → TextFault t → EntryFault (entry_of s t)
+      named (Ok span) h = bodied span.begin span.end (block_at s span.end) (text_fault span.end)
       named (Err why) h = h
 
   abbrev pub CheckFault : Answer → Type 0

@@ -8,14 +8,15 @@ use mathlib.Core.List.{List, [], ◌∷◌}
 use mathlib.Core.Bool.{Bool, true, false}
 use lib.ListN.{length}
 use lib.Dec.{ltb, leb, eqb}
-use borrow.Author.Tests.{lt-ltb, le-ltb, le-leb, lt-leb, eq-eqb, ne_eqb, leb-true, ltb-false, eqb-true, eqb-false}
+use borrow.Author.Tests.{lt-ltb, le-ltb, eq-eqb, ne_eqb, leb-true, ltb-false, eqb-true, eqb-false}
 use Rattle.coding.specs.Refusal.{NumberRead, value_then, refused_at}
 use Rattle.std.specs.Prelude.{Ok, Err}
 use Rattle.coding.specs.Number.{pick, number_at}
-use Rattle.coding.specs.Working.Rows.{next_row}
 use Rattle.coding.specs.declared.Cause.{Cause}
-use Rattle.coding.specs.declared.Cause.TheVariants.{CutShort, LeftOver, NotAllowed, NameAbsent}
-use Rattle.sheet.specs.Sheet.{eqbs, part, text_of, text_at, name_of, name_at, body_after, entry_of, entry_at, check_entry, check_from, seek_entry, seek_from, find_in, body_of, start_of, longest_name, most_entries, TextAt, EntryAt, Lookup, span_from, entry_from}
+use Rattle.coding.specs.declared.Cause.TheVariants.{LeftOver, NotAllowed, NameAbsent}
+use Rattle.sheet.specs.Sheet.{eqbs, part, name_of, name_at, body_after, entry_of, entry_at, check_entry, check_from, seek_entry, seek_from, find_in, body_of, start_of, longest_name, most_entries, EntryAt, Lookup, entry_from}
+use Rattle.coding.proofs.Blocks.{block_by_number}
+use Rattle.coding.specs.Block.{block_of, block_at, BlockAt, span_from}
 
 -- a fact about a choice, from the fact about each side
 pub by : {A : Type 0} (P : A → Type 0) (t : Bool) {x y : A} → (t ≡ true → P x) → (t ≡ false → P y) → P (pick t x y)
@@ -47,38 +48,20 @@ same_is xs ys false f g = go (eqbs xs ys) (λ e. g (eqbs_eq xs ys e))
     go true h = h refl
     go false h = refl
 
--- ---- the ways through `text_at` and `name_at`
+-- ---- the ways through `name_at`
 module _ (s : List ℕ) (at : ℕ) where
-  module _ (cause : Cause) (place : ℕ) (q : refused_at cause place ≡ number_at s at) where
-    pub no_text : refused_at cause place ≡ text_at s at
-    unfolding text_at
-    no_text = rw (← q)
-
-    pub no_name : refused_at cause place ≡ name_at s at
-    unfolding name_at
-    no_name = rw (← q)
+  pub no_name : (cause : Cause) (place : ℕ) → refused_at cause place ≡ number_at s at → refused_at cause place ≡ name_at s at
+  unfolding name_at
+  no_name cause place q = rw (← q)
 
   module _ (n begin : ℕ) (q : value_then n begin ≡ number_at s at) where
-    pub begins_inside : begin ≤ length s
-    begins_inside = (next_row s at n begin q).2
-
-    text_of_lem : text_at s at ≡ text_of s at (value_then n begin)
-    unfolding text_at
-    text_of_lem = rw (← q)
-
-    pub text_cut : length s - begin < n → refused_at CutShort at ≡ text_at s at
-    text_cut l = let b = begins_inside in rw (text_of_lem, lt-leb (begin + n) (length s) (omega arith))
-
-    pub text_whole : n ≤ length s - begin → span_from begin (begin + n) ≡ text_at s at
-    text_whole l = let b = begins_inside in rw (text_of_lem, le-leb (begin + n) (length s) (omega arith))
-
     pub name_bad : (n ≡ 0) ⊎ ((n ≡ 0 → ⊥) × (longest_name < n)) → refused_at NotAllowed at ≡ name_at s at
     unfolding name_at
     name_bad (inl z) = rw (← q, eq-eqb _ _ z)
     name_bad (inr l) = rw (← q, ne_eqb _ _ l.0, lt-ltb _ _ l.1)
 
     module _ (nz : n ≡ 0 → ⊥) where
-      pub name_fits : n ≤ longest_name → text_at s at ≡ name_at s at
+      pub name_fits : n ≤ longest_name → block_at s at ≡ name_at s at
       unfolding name_at
       name_fits l = rw (← q, ne_eqb _ _ nz, le-ltb _ _ l)
 
@@ -89,11 +72,11 @@ module _ (s : List ℕ) (at : ℕ) where
   entry_no_name cause place q = rw (← q)
 
   module _ (name name_end : ℕ) (q : span_from name name_end ≡ name_at s at) where
-    pub entry_no_body : (cause : Cause) (place : ℕ) → refused_at cause place ≡ text_at s name_end → refused_at cause place ≡ entry_at s at
+    pub entry_no_body : (cause : Cause) (place : ℕ) → refused_at cause place ≡ block_at s name_end → refused_at cause place ≡ entry_at s at
     unfolding entry_at
     entry_no_body cause place r = rw (← q, ← r)
 
-    pub entry_whole : (body body_end : ℕ) → span_from body body_end ≡ text_at s name_end → entry_from name name_end body body_end ≡ entry_at s at
+    pub entry_whole : (body body_end : ℕ) → span_from body body_end ≡ block_at s name_end → entry_from name name_end body body_end ≡ entry_at s at
     unfolding entry_at
     entry_whole body body_end r = rw (← q, ← r)
 
@@ -187,11 +170,11 @@ module _ (found : Lookup) where
     start_none = rw (← q)
 
 -- ---- what is named lies inside the sheet, and a name has 1 to 16 bytes
-abbrev TextInside : List ℕ → TextAt → Type 0
+abbrev TextInside : List ℕ → BlockAt → Type 0
 TextInside s (Ok span) = (span.begin ≤ span.end) × (span.end ≤ length s)
 TextInside s (Err why) = Unit {0}
 
-abbrev NameInside : List ℕ → TextAt → Type 0
+abbrev NameInside : List ℕ → BlockAt → Type 0
 NameInside s (Ok span) = (span.begin < span.end) × (span.end ≤ span.begin + longest_name) × (span.end ≤ length s)
 NameInside s (Err why) = Unit {0}
 
@@ -200,11 +183,11 @@ EntryInside s (Ok entry) = (entry.name.begin < entry.name.end) × (entry.name.en
 EntryInside s (Err why) = Unit {0}
 
 module _ (s : List ℕ) where
-  text_inside : (at : ℕ) → TextInside s (text_at s at)
-  unfolding text_at
+  text_inside : (at : ℕ) → TextInside s (block_at s at)
+  unfolding block_at
   text_inside at = go (number_at s at)
     where
-      go : (m : NumberRead) → TextInside s (text_of s at m)
+      go : (m : NumberRead) → TextInside s (block_of s at m)
       go (Ok num) = by (TextInside s) (leb (num.next + num.value) (length s)) (λ t. (omega arith, leb-true _ _ t)) (λ _. tt)
       go (Err why) = tt
 
@@ -216,7 +199,7 @@ module _ (s : List ℕ) where
       go (Ok num) q =
           by (NameInside s) (eqb num.value 0) (λ _. tt) (λ z.
           by (NameInside s) (ltb longest_name num.value) (λ _. tt) (λ l.
-          rw (text_of_lem s at num.value num.next q)
+          rw (block_by_number s at num.value num.next q)
           (by (NameInside s) (leb (num.next + num.value) (length s))
           (λ t. let d = eqb-false num.value 0 z in let k = ltb-false longest_name num.value l in (omega arith, omega arith, leb-true _ _ t))
           (λ _. tt))))
@@ -226,12 +209,12 @@ module _ (s : List ℕ) where
   unfolding entry_at
   entry_inside at = named (name_at s at) (name_inside at)
     where
-      bodied : (begin end : ℕ) → NameInside s (span_from begin end) → (t : TextAt) → TextInside s t → EntryInside s (body_after begin end t)
+      bodied : (begin end : ℕ) → NameInside s (span_from begin end) → (t : BlockAt) → TextInside s t → EntryInside s (body_after begin end t)
       bodied begin end h (Ok span) k = (h.0, h.1, h.2, k.0, k.1)
       bodied begin end h (Err why) k = tt
 
-      named : (t : TextAt) → NameInside s t → EntryInside s (entry_of s t)
-      named (Ok span) h = bodied span.begin span.end h (text_at s span.end) (text_inside span.end)
+      named : (t : BlockAt) → NameInside s t → EntryInside s (entry_of s t)
+      named (Ok span) h = bodied span.begin span.end h (block_at s span.end) (text_inside span.end)
       named (Err why) h = tt
 
   pub inside : (at begin end body body_end : ℕ) → entry_from begin end body body_end ≡ entry_at s at → EntryInside s (entry_from begin end body body_end)

@@ -13,7 +13,8 @@ use Rattle.coding.specs.Refusal.{NumberRead, Answer, value_then, refused_at}
 use Rattle.std.specs.Prelude.{Ok, Err}
 use Rattle.coding.specs.Number.{number_at}
 use Rattle.coding.specs.declared.Cause.TheVariants.{NameAbsent}
-use Rattle.sheet.specs.Sheet.{most_entries, longest_name, eqbs, part, entry_at, check_entry, check_from, seek_entry, seek_from, sought, find_after, find_in, EntryAt, Lookup, span_from, entry_from}
+use Rattle.sheet.specs.Sheet.{most_entries, longest_name, eqbs, part, entry_at, check_entry, check_from, seek_entry, seek_from, sought, find_after, find_in, EntryAt, Lookup, entry_from}
+use Rattle.coding.specs.Block.{span_from}
 use Rattle.sheet.proofs.Laws.{by, eqbs_eq, eqbs_same, eqbs_other, same_is, inside, find_sought}
 
 -- A sheet that is accepted: a count of at most 32, so many entries from `start` on, and nothing after them.

@@ -16,9 +16,11 @@ use Rattle.std.specs.Prelude.{Ok, Err}
 use Rattle.coding.specs.Number.{Begin, number, none as no_number, first, placed, pick, number_at, bytes_of}
 use Rattle.coding.proofs.Bytes.{one≤}
 use Rattle.coding.proofs.Trip.{Begins, read_written, written_read}
-use Rattle.sheet.specs.Sheet.{longest_name, eqbs, part, text_of, text_at, name_of, name_at, body_after, entry_of, entry_at, check_entry, check_from, seek_from, body_of, TextAt, EntryAt, span_from, entry_from}
+use Rattle.sheet.specs.Sheet.{longest_name, eqbs, part, name_of, name_at, body_after, entry_of, entry_at, check_entry, check_from, seek_from, body_of, EntryAt, entry_from}
+use Rattle.coding.specs.Block.{block_of, block_at, BlockAt, span_from}
 use Rattle.sheet.specs.MadeUp.{NamedBody, entry_bytes, body_start, entries_bytes, EntryAllowed, EntriesAllowed, first_named, found_from, Finds}
-use Rattle.sheet.proofs.Laws.{by, inside, text_whole, name_fits, entry_whole}
+use Rattle.coding.proofs.Blocks.{block_whole}
+use Rattle.sheet.proofs.Laws.{by, inside, name_fits, entry_whole}
 
 -- ---- from the entries to the sheet
 -- Entry e stands in s from a place on, and behind it comes this rest: the reader finds its name, its body and the
@@ -57,11 +59,11 @@ module _ (s : List ℕ) where
     told_there : number_at s at ≡ value_then (length t) (begin_of at t)
     told_there = number_there at (length t) (t ++ rest) small e
 
-    text_there : text_at s at ≡ span_from (begin_of at t) (begin_of at t + length t)
+    text_there : block_at s at ≡ span_from (begin_of at t) (begin_of at t + length t)
     text_there =
         let size : length s - at ≡ length (bytes_of (length t)) + (length t + length rest) =
         simp (length-drop, length-append) at (ap length e) in
-        sym (text_whole s at (length t) (begin_of at t) (sym told_there) (omega (arith, one≤ (length t))))
+        sym (block_whole s at (length t) (begin_of at t) (sym told_there) (omega (arith, one≤ (length t))))
 
     name_there : 1 ≤ length t → length t ≤ longest_name → name_at s at ≡ span_from (begin_of at t) (begin_of at t + length t)
     name_there held short =
@@ -154,7 +156,7 @@ module _ (s : List ℕ) (small : (i : ℕ) → get_or s i 0 < 256) where
       go (no_number cause) b = tt
 
   -- a text is told by its length, and stands behind it
-  abbrev TextIs : ℕ → TextAt → Type 0
+  abbrev TextIs : ℕ → BlockAt → Type 0
   TextIs at (Ok span) =
       (length (part s span.begin span.end) < 65536)
       × (drop at s ≡ bytes_of (length (part s span.begin span.end)) ++ (part s span.begin span.end ++ drop span.end s))
@@ -166,11 +168,11 @@ module _ (s : List ℕ) (small : (i : ℕ) → get_or s i 0 < 256) where
       let size : length (take n (drop begin s)) ≡ n = simp (length-take, length-drop) (omega arith) in
       rw (z, size, ← drop-drop n begin s, take-append-drop) h
 
-  text_is_told : (at : ℕ) → TextIs at (text_at s at)
-  unfolding text_at
+  text_is_told : (at : ℕ) → TextIs at (block_at s at)
+  unfolding block_at
   text_is_told at = go (number_at s at) (number_is at)
     where
-      go : (m : NumberRead) → NumberIs at m → TextIs at (text_of s at m)
+      go : (m : NumberRead) → NumberIs at m → TextIs at (block_of s at m)
       go (Ok num) h =
           by (TextIs at) (leb (num.next + num.value) (length s)) (λ t. text_part at num.value num.next (leb-true _ _ t) h) (λ t. tt)
       go (Err why) h = tt
@@ -195,13 +197,13 @@ module _ (s : List ℕ) (small : (i : ℕ) → get_or s i 0 < 256) where
   unfolding entry_at entry_bytes
   entry_is_told at = named (name_at s at) (name_is_told at)
     where
-      bodied : (begin end : ℕ) → TextIs at (span_from begin end) → (t : TextAt) → TextIs end t →
+      bodied : (begin end : ℕ) → TextIs at (span_from begin end) → (t : BlockAt) → TextIs end t →
           EntryIs at (body_after begin end t)
       bodied begin end h (Ok span) k = (k.0, simp append_assoc (rw k.1 at h.1))
       bodied begin end h (Err why) k = tt
 
-      named : (t : TextAt) → TextIs at t → EntryIs at (entry_of s t)
-      named (Ok span) h = bodied span.begin span.end h (text_at s span.end) (text_is_told span.end)
+      named : (t : BlockAt) → TextIs at t → EntryIs at (entry_of s t)
+      named (Ok span) h = bodied span.begin span.end h (block_at s span.end) (text_is_told span.end)
       named (Err why) h = tt
 
   allowed_there : (at begin end body next : ℕ) → entry_at s at ≡ entry_from begin end body next →

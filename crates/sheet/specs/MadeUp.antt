@@ -7,7 +7,8 @@ use Rattle.std.specs.Prelude.{ℕ, ◌+◌, ◌≤◌, ◌≡◌, List, [], ◌�
 use Rattle.std.proofs.Math.Option.{Option, some, none}
 use Rattle.coding.specs.Number.{pick, bytes_of}
 use Rattle.coding.specs.declared.Cause.TheVariants.{NameAbsent}
-use Rattle.sheet.specs.Sheet.{most_entries, longest_name, eqbs, body_of, Lookup, span_from}
+use Rattle.sheet.specs.Sheet.{most_entries, longest_name, eqbs, body_of, Lookup}
+use Rattle.coding.specs.Block.{span_from}
 
 -- An entry: a name and its body, any bytes.
 pub record NamedBody : Type 0 where

@@ -1,20 +1,14 @@
 -- Document 01, Coding: "Sheet: count (0 to 32), then name length (1 to 16), name, body length, body."
 -- Assumes nothing: these are definitions.
-use Rattle.std.specs.Prelude.{ℕ, zero, suc, ◌+◌, ◌-◌, List, [], ◌∷◌, Bool, true, false, length, take, drop, ltb, leb, eqb, Ok, Err, Result}
+use Rattle.std.specs.Prelude.{ℕ, zero, suc, ◌-◌, List, [], ◌∷◌, Bool, true, false, length, take, drop, ltb, eqb, Ok, Err, Result}
 use Rattle.coding.specs.declared.Refusal.{Refusal}
-use Rattle.sheet.specs.declared.Span.{Span}
+use Rattle.coding.specs.declared.Span.{Span}
+use Rattle.coding.specs.Block.{BlockAt, span_from, block_at}
 use Rattle.sheet.specs.declared.Entry.{Entry}
 use Rattle.coding.specs.Number.{pick, number_at}
 use Rattle.coding.specs.Refusal.{accepted, refusal, NumberRead, Answer, refused_at}
 use Rattle.coding.specs.declared.Told.{Told}
-use Rattle.coding.specs.declared.Cause.TheVariants.{CutShort, LeftOver, NotAllowed, NameAbsent}
-
--- What a text is read as: where it begins and ends, or why there is none and where.
-abbrev pub TextAt : Type 0
-TextAt = Result Span Refusal
-
-abbrev pub span_from : ℕ → ℕ → TextAt
-span_from begin end = Ok (record { begin = begin; end = end })
+use Rattle.coding.specs.declared.Cause.TheVariants.{LeftOver, NotAllowed, NameAbsent}
 
 -- An entry: where its name and its body begin and end, or a refusal.
 abbrev pub EntryAt : Type 0
@@ -45,29 +39,21 @@ eqbs (x ∷ xs) (y ∷ ys) = pick (eqb x y) (eqbs xs ys) false
 abbrev pub part : List ℕ → ℕ → ℕ → List ℕ
 part s begin end = take (end - begin) (drop begin s)
 
--- A text after its length: "a text or block cut short at its length's first byte".
-abbrev pub text_of : List ℕ → ℕ → NumberRead → TextAt
-text_of s at (Ok num) = pick (leb (num.next + num.value) (length s)) (span_from num.next (num.next + num.value)) (refused_at CutShort at)
-text_of s at (Err why) = Err why
-
-unfoldable pub text_at : List ℕ → ℕ → TextAt
-text_at s at = text_of s at (number_at s at)
-
 -- "name length (1 to 16), name": a number's value is looked at when it is read, before its text.
-abbrev pub name_of : List ℕ → ℕ → NumberRead → TextAt
-name_of s at (Ok num) = pick (eqb num.value 0) (refused_at NotAllowed at) (pick (ltb longest_name num.value) (refused_at NotAllowed at) (text_at s at))
+abbrev pub name_of : List ℕ → ℕ → NumberRead → BlockAt
+name_of s at (Ok num) = pick (eqb num.value 0) (refused_at NotAllowed at) (pick (ltb longest_name num.value) (refused_at NotAllowed at) (block_at s at))
 name_of s at (Err why) = Err why
 
-unfoldable pub name_at : List ℕ → ℕ → TextAt
+unfoldable pub name_at : List ℕ → ℕ → BlockAt
 name_at s at = name_of s at (number_at s at)
 
 -- "name length (1 to 16), name, body length, body". "A body is not read until asked for": any bytes will do.
-abbrev pub body_after : ℕ → ℕ → TextAt → EntryAt
+abbrev pub body_after : ℕ → ℕ → BlockAt → EntryAt
 body_after name name_end (Ok span) = entry_from name name_end span.begin span.end
 body_after name name_end (Err why) = Err why
 
-abbrev pub entry_of : List ℕ → TextAt → EntryAt
-entry_of s (Ok span) = body_after span.begin span.end (text_at s span.end)
+abbrev pub entry_of : List ℕ → BlockAt → EntryAt
+entry_of s (Ok span) = body_after span.begin span.end (block_at s span.end)
 entry_of s (Err why) = Err why
 
 unfoldable pub entry_at : List ℕ → ℕ → EntryAt

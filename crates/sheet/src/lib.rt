@@ -2,43 +2,19 @@
 #![tactic(auto)]
 
 ghost use Rattle.std.specs.Prelude.{◌≡◌, ◌+◌, ◌≤◌, length};
-ghost use Rattle.sheet.specs.Sheet.{text_at, name_at, entry_at, check_from, seek_from, find_in, body_of, start_of, eqbs, part};
+ghost use Rattle.sheet.specs.Sheet.{name_at, entry_at, check_from, seek_from, find_in, body_of, start_of, eqbs, part};
 
-use coding::{Answer, Cause, Refusal};
+use coding::{Answer, Cause, Refusal, Span};
 
 const MOST_ENTRIES: u16 = 32;
 
 const LONGEST_NAME: u16 = 16;
-
-// Where a text of the sheet begins and ends.
-#[derive(Clone, Copy, Debug, PartialEq, Eq)]
-pub struct Span {
-    pub begin: usize,
-    pub end: usize,
-}
 
 // An entry of the sheet: its name and its body.
 #[derive(Clone, Copy)]
 struct Entry {
     name: Span,
     body: Span,
-}
-
-// The text whose length stands at `at`.
-fn text_at(sheet: &[u8], at: usize) -> Result<Span, Refusal>
-    ensures { result ≡ text_at sheet.now at }
-{
-    let length = coding::read_number(sheet, at)?;
-    let begin = length.next;
-    let size = length.value as usize;
-    let left = sheet.len() - begin;
-    if left < size {
-        return Err(Cause::CutShort.at(at));
-    }
-    Ok(Span {
-        begin,
-        end: begin + size,
-    })
 }
 
 // The name whose length stands at `at`: the length is looked at before the text.
@@ -49,7 +25,7 @@ fn name_at(sheet: &[u8], at: usize) -> Result<Span, Refusal>
     if length.value == 0 || LONGEST_NAME < length.value {
         return Err(Cause::NotAllowed.at(at));
     }
-    text_at(sheet, at)
+    coding::block_at(sheet, at)
 }
 
 // The entry whose name's length stands at `at`.
@@ -57,7 +33,7 @@ fn entry_at(sheet: &[u8], at: usize) -> Result<Entry, Refusal>
     ensures { result ≡ entry_at sheet.now at }
 {
     let name = name_at(sheet, at)?;
-    let body = text_at(sheet, name.end)?;
+    let body = coding::block_at(sheet, name.end)?;
     Ok(Entry { name, body })
 }
 
@@ -83,12 +59,12 @@ fn same(a: &[u8], b: &[u8]) -> bool
     check::same(a, b)
 }
 
-// Whether the part of the sheet from `begin` to `end` is the name.
-fn is_named(sheet: &[u8], begin: usize, end: usize, name: &[u8]) -> bool
-    requires { (begin ≤ end) × (end ≤ length sheet.now) }
-    ensures { result ≡ eqbs (part sheet.now begin end) name.now }
+// Whether this text of the sheet is the name.
+fn is_named(sheet: &[u8], text: Span, name: &[u8]) -> bool
+    requires { (text.begin ≤ text.end) × (text.end ≤ length sheet.now) }
+    ensures { result ≡ eqbs (part sheet.now text.begin text.end) name.now }
 {
-    same(&sheet[begin..end], name)
+    same(&sheet[text.begin..text.end], name)
 }
 
 // The first of so many entries from `at` on that has the name.
@@ -98,7 +74,7 @@ fn seek(sheet: &[u8], name: &[u8], count: u16, at: usize) -> Result<Span, Refusa
     let mut here = at;
     for _ in 0..count {
         let entry = entry_at(sheet, here)?;
-        if is_named(sheet, entry.name.begin, entry.name.end, name) {
+        if is_named(sheet, entry.name, name) {
             return Ok(entry.body);
         }
         here = entry.body.end;

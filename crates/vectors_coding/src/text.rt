@@ -1,8 +1,7 @@
 // What is printed of an answer and of the buffer that was lent.
-use coding::{Answer, Number, Refusal};
+use coding::{Answer, Number, Refusal, Span};
 use records::{checksum, say_refused};
 use requirement::Checked;
-use sheet::Span;
 use std::io;
 use std::io::Write;
 use std::ops::Range;

@@ -14,4 +14,4 @@ returns-then-length-eq0 c = rw c.at.ensures (name_bad _ _ _ _ c.in_ok-length.ens
 
 pub returns : goal.returns
 returns c =
-    c.text_at.ensures ∙ name_fits _ _ _ _ c.in_ok-length.ensures c.if-length-eq0.false (search rules)
+    c.block_at.ensures ∙ name_fits _ _ _ _ c.in_ok-length.ensures c.if-length-eq0.false (search rules)
