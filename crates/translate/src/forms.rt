@@ -1,168 +1,120 @@
-// The numbers of a form before, between and behind its operands. Each is below 128, so it is its own byte.
-ghost use Rattle.std.specs.Prelude.{◌≡◌, ◌≤◌, [], ◌∷◌, length};
+// The translation table: each operator's form, whose numbers stand before, between and behind the codes of its
+// operands. Each number is below 128, so it is its own byte.
+ghost use Rattle.std.specs.Prelude.{◌≡◌, []};
 ghost use Rattle.requirement.specs.Tags.{mark_no};
-ghost use Rattle.translate.specs.Writing.{mark_of, next_before, ever_before, always_before, one_before, one_behind, two_before, two_between, two_behind, Put};
+ghost use Rattle.translate.specs.Writing.{one_before, one_behind, two_before, two_between, two_behind};
 
 use requirement::{End, Family, One, Phase, Two};
 
-// Puts one byte at a place, if there is room. The place after it.
-fn put_one(byte: u8, out: &mut [u8], place: usize) -> usize
-    requires { place ≤ length out.old }
-    ensures { Put out.old place (byte ∷ []) out.new result }
-{
-    if place < out.len() {
-        out[place] = byte;
-        return place + 1;
-    }
-    place
+pub const ATOM: u8 = 0;
+
+const NOT: u8 = 1;
+
+const AND: u8 = 2;
+
+const INPUT: u8 = 3;
+
+const EXE: u8 = 4;
+
+const OUTPUT: u8 = 5;
+
+const NEXT: u8 = 8;
+
+const EVER: u8 = 9;
+
+const ALWAYS: u8 = 10;
+
+const UNTIL: u8 = 11;
+
+// A form's numbers. Over one operand there are none between.
+#[derive(Clone, Copy)]
+pub struct Form {
+    pub before: &'static [u8],
+    pub between: &'static [u8],
+    pub behind: &'static [u8],
 }
 
-// Puts bytes from a place on, as far as there is room. The place after them.
-pub fn put_all(bytes: &[u8], out: &mut [u8], place: usize) -> usize
-    requires { place ≤ length out.old }
-    ensures { Put out.old place bytes.now out.new result }
-{
-    let mut at = place;
-    for byte in bytes {
-        at = put_one(*byte, out, at);
+impl Form {
+    // Numbers before the operands alone.
+    fn prefix(before: &'static [u8]) -> Form
+        ensures before { result.before.now ≡ before.now }
+        ensures between { result.between.now ≡ [] }
+        ensures behind { result.behind.now ≡ [] }
+    {
+        Form::around(before, &[], &[])
     }
-    at
+
+    // Numbers before, between and behind the operands.
+    fn around(before: &'static [u8], between: &'static [u8], behind: &'static [u8]) -> Form
+        ensures before { result.before.now ≡ before.now }
+        ensures between { result.between.now ≡ between.now }
+        ensures behind { result.behind.now ≡ behind.now }
+    {
+        Form {
+            before,
+            between,
+            behind,
+        }
+    }
 }
 
+// The number of a mark. (Not `u8::from`: the marks are a type of `requirement`.)
 pub fn mark_number(mark: Phase) -> u8
     ensures { result ≡ mark_no mark }
 {
     match mark {
-        Phase::Input => 3,
-        Phase::Exe => 4,
-        Phase::Output => 5,
+        Phase::Input => INPUT,
+        Phase::Exe => EXE,
+        Phase::Output => OUTPUT,
     }
 }
 
-fn mark_of(end: End) -> u8
-    ensures { result ≡ mark_of end }
-{
-    match end {
-        End::Reads => mark_number(Phase::Input),
-        End::Writes => mark_number(Phase::Output),
-    }
-}
-
-fn next_before(family: Family, out: &mut [u8], place: usize) -> usize
-    requires { place ≤ length out.old }
-    ensures { Put out.old place (next_before family) out.new result }
-{
-    match family {
-        Family::Plain => put_all(&[8], out, place),
-        Family::Within => put_all(&[8, 2, 4], out, place),
-        Family::Each(end) => {
-            let m = mark_of(end);
-            put_all(&[11, 1, m, 2, m, 8, 11, 1, m, 2, m], out, place)
-        }
-    }
-}
-
-fn ever_before(family: Family, out: &mut [u8], place: usize) -> usize
-    requires { place ≤ length out.old }
-    ensures { Put out.old place (ever_before family) out.new result }
-{
-    match family {
-        Family::Plain => put_all(&[9], out, place),
-        Family::Within => put_all(&[11, 1, 5, 2, 4], out, place),
-        Family::Each(end) => {
-            let m = mark_of(end);
-            put_all(&[9, 2, m], out, place)
-        }
-    }
-}
-
-fn always_before(family: Family, out: &mut [u8], place: usize) -> usize
-    requires { place ≤ length out.old }
-    ensures { Put out.old place (always_before family) out.new result }
-{
-    match family {
-        Family::Plain => put_all(&[10], out, place),
-        Family::Within => put_all(&[11, 2], out, place),
-        Family::Each(end) => {
-            let m = mark_of(end);
-            put_all(&[10, 1, 2, m, 1], out, place)
-        }
-    }
-}
-
-pub fn one_before(operator: One, out: &mut [u8], place: usize) -> usize
-    requires { place ≤ length out.old }
-    ensures { Put out.old place (one_before operator) out.new result }
+// The form of an operator over one operand. (The i and the o operators have a row each: one row for both would have the
+// mark's number as a variable, and be no constant.)
+pub fn over_one(operator: One) -> Form
+    ensures before { result.before.now ≡ one_before operator }
+    ensures behind { result.behind.now ≡ one_behind operator }
 {
     match operator {
-        One::Not => put_all(&[1], out, place),
-        One::Next(family) => next_before(family, out, place),
-        One::Ever(family) => ever_before(family, out, place),
-        One::Always(family) => always_before(family, out, place),
+        One::Not => Form::prefix(&[NOT]),
+        One::Next(Family::Plain) => Form::prefix(&[NEXT]),
+        One::Next(Family::Within) => Form::prefix(&[NEXT, AND, EXE]),
+        One::Next(Family::Each(End::Reads)) => Form::prefix(&[
+            UNTIL, NOT, INPUT, AND, INPUT, NEXT, UNTIL, NOT, INPUT, AND, INPUT,
+        ]),
+        One::Next(Family::Each(End::Writes)) => Form::prefix(&[
+            UNTIL, NOT, OUTPUT, AND, OUTPUT, NEXT, UNTIL, NOT, OUTPUT, AND, OUTPUT,
+        ]),
+        One::Ever(Family::Plain) => Form::prefix(&[EVER]),
+        One::Ever(Family::Within) => Form::prefix(&[UNTIL, NOT, OUTPUT, AND, EXE]),
+        One::Ever(Family::Each(End::Reads)) => Form::prefix(&[EVER, AND, INPUT]),
+        One::Ever(Family::Each(End::Writes)) => Form::prefix(&[EVER, AND, OUTPUT]),
+        One::Always(Family::Plain) => Form::prefix(&[ALWAYS]),
+        One::Always(Family::Within) => Form::around(&[UNTIL, AND], &[], &[EXE, OUTPUT]),
+        One::Always(Family::Each(End::Reads)) => Form::prefix(&[ALWAYS, NOT, AND, INPUT, NOT]),
+        One::Always(Family::Each(End::Writes)) => Form::prefix(&[ALWAYS, NOT, AND, OUTPUT, NOT]),
     }
 }
 
-// Only G^e has something behind its operand: Exe, and then Output.
-pub fn one_behind(operator: One, out: &mut [u8], place: usize) -> usize
-    requires { place ≤ length out.old }
-    ensures { Put out.old place (one_behind operator) out.new result }
+// The form of an operator over two operands.
+pub fn over_two(operator: Two) -> Form
+    ensures before { result.before.now ≡ two_before operator }
+    ensures between { result.between.now ≡ two_between operator }
+    ensures behind { result.behind.now ≡ two_behind operator }
 {
     match operator {
-        One::Not => place,
-        One::Next(_) => place,
-        One::Ever(_) => place,
-        One::Always(family) => match family {
-            Family::Plain => place,
-            Family::Within => put_all(&[4, 5], out, place),
-            Family::Each(_) => place,
-        },
-    }
-}
-
-pub fn two_before(operator: Two, out: &mut [u8], place: usize) -> usize
-    requires { place ≤ length out.old }
-    ensures { Put out.old place (two_before operator) out.new result }
-{
-    match operator {
-        Two::And => put_all(&[2], out, place),
-        Two::Until(family) => match family {
-            Family::Plain => put_all(&[11], out, place),
-            Family::Within => put_all(&[11, 2], out, place),
-            Family::Each(end) => {
-                let m = mark_of(end);
-                put_all(&[11, 1, 2, m, 1], out, place)
-            }
-        },
-    }
-}
-
-pub fn two_between(operator: Two, out: &mut [u8], place: usize) -> usize
-    requires { place ≤ length out.old }
-    ensures { Put out.old place (two_between operator) out.new result }
-{
-    match operator {
-        Two::And => place,
-        Two::Until(family) => match family {
-            Family::Plain => place,
-            Family::Within => put_all(&[4, 2], out, place),
-            Family::Each(end) => {
-                let m = mark_of(end);
-                put_all(&[2, m], out, place)
-            }
-        },
-    }
-}
-
-pub fn two_behind(operator: Two, out: &mut [u8], place: usize) -> usize
-    requires { place ≤ length out.old }
-    ensures { Put out.old place (two_behind operator) out.new result }
-{
-    match operator {
-        Two::And => place,
-        Two::Until(family) => match family {
-            Family::Plain => place,
-            Family::Within => put_all(&[4], out, place),
-            Family::Each(_) => place,
-        },
+        Two::And => Form::prefix(&[AND]),
+        Two::Until(Family::Plain) => Form::prefix(&[UNTIL]),
+        Two::Until(Family::Within) => Form::around(&[UNTIL, AND], &[EXE, AND], &[EXE]),
+        Two::Until(Family::Each(End::Reads)) => Form::around(
+            &[UNTIL, NOT, AND, INPUT, NOT],
+            &[AND, INPUT],
+            &[],
+        ),
+        Two::Until(Family::Each(End::Writes)) => Form::around(
+            &[UNTIL, NOT, AND, OUTPUT, NOT],
+            &[AND, OUTPUT],
+            &[],
+        ),
     }
 }
