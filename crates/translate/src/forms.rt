@@ -1,9 +1,11 @@
-// The translation table: each operator's form, whose numbers stand before, between and behind the codes of its
-// operands. Each number is below 128, so it is its own byte.
-ghost use Rattle.std.specs.Prelude.{◌≡◌, []};
+// The translation table: the numbers of each operator's form before, between and behind the codes of its operands. Each
+// number is below 128, so it is its own byte. (A function for each place, whose numbers stand in its calls: a table of
+// rows, looked up and then put, was tried, and translating took a fifth longer.)
+ghost use Rattle.std.specs.Prelude.{◌≡◌};
 ghost use Rattle.requirement.specs.Tags.{mark_no};
-ghost use Rattle.translate.specs.Writing.{one_before, one_behind, two_before, two_between, two_behind};
+ghost use Rattle.translate.specs.Writing.{mark_of, one_before, one_behind, two_before, two_between, two_behind, Puts};
 
+use crate::writing::Writing;
 use requirement::{End, Family, One, Phase, Two};
 
 pub const ATOM: u8 = 0;
@@ -26,38 +28,6 @@ const ALWAYS: u8 = 10;
 
 const UNTIL: u8 = 11;
 
-// A form's numbers. Over one operand there are none between.
-#[derive(Clone, Copy)]
-pub struct Form {
-    pub before: &'static [u8],
-    pub between: &'static [u8],
-    pub behind: &'static [u8],
-}
-
-impl Form {
-    // Numbers before the operands alone.
-    fn prefix(before: &'static [u8]) -> Form
-        ensures before { result.before.now ≡ before.now }
-        ensures between { result.between.now ≡ [] }
-        ensures behind { result.behind.now ≡ [] }
-    {
-        Form::around(before, &[], &[])
-    }
-
-    // Numbers before, between and behind the operands.
-    fn around(before: &'static [u8], between: &'static [u8], behind: &'static [u8]) -> Form
-        ensures before { result.before.now ≡ before.now }
-        ensures between { result.between.now ≡ between.now }
-        ensures behind { result.behind.now ≡ behind.now }
-    {
-        Form {
-            before,
-            between,
-            behind,
-        }
-    }
-}
-
 // The number of a mark. (Not `u8::from`: the marks are a type of `requirement`.)
 pub fn mark_number(mark: Phase) -> u8
     ensures { result ≡ mark_no mark }
@@ -69,52 +39,86 @@ pub fn mark_number(mark: Phase) -> u8
     }
 }
 
-// The form of an operator over one operand. (The i and the o operators have a row each: one row for both would have the
-// mark's number as a variable, and be no constant.)
-pub fn over_one(operator: One) -> Form
-    ensures before { result.before.now ≡ one_before operator }
-    ensures behind { result.behind.now ≡ one_behind operator }
+// The number of the mark of an end.
+fn mark_of(end: End) -> u8
+    ensures { result ≡ mark_of end }
 {
-    match operator {
-        One::Not => Form::prefix(&[NOT]),
-        One::Next(Family::Plain) => Form::prefix(&[NEXT]),
-        One::Next(Family::Within) => Form::prefix(&[NEXT, AND, EXE]),
-        One::Next(Family::Each(End::Reads)) => Form::prefix(&[
-            UNTIL, NOT, INPUT, AND, INPUT, NEXT, UNTIL, NOT, INPUT, AND, INPUT,
-        ]),
-        One::Next(Family::Each(End::Writes)) => Form::prefix(&[
-            UNTIL, NOT, OUTPUT, AND, OUTPUT, NEXT, UNTIL, NOT, OUTPUT, AND, OUTPUT,
-        ]),
-        One::Ever(Family::Plain) => Form::prefix(&[EVER]),
-        One::Ever(Family::Within) => Form::prefix(&[UNTIL, NOT, OUTPUT, AND, EXE]),
-        One::Ever(Family::Each(End::Reads)) => Form::prefix(&[EVER, AND, INPUT]),
-        One::Ever(Family::Each(End::Writes)) => Form::prefix(&[EVER, AND, OUTPUT]),
-        One::Always(Family::Plain) => Form::prefix(&[ALWAYS]),
-        One::Always(Family::Within) => Form::around(&[UNTIL, AND], &[], &[EXE, OUTPUT]),
-        One::Always(Family::Each(End::Reads)) => Form::prefix(&[ALWAYS, NOT, AND, INPUT, NOT]),
-        One::Always(Family::Each(End::Writes)) => Form::prefix(&[ALWAYS, NOT, AND, OUTPUT, NOT]),
+    match end {
+        End::Reads => INPUT,
+        End::Writes => OUTPUT,
     }
 }
 
-// The form of an operator over two operands.
-pub fn over_two(operator: Two) -> Form
-    ensures before { result.before.now ≡ two_before operator }
-    ensures between { result.between.now ≡ two_between operator }
-    ensures behind { result.behind.now ≡ two_behind operator }
-{
-    match operator {
-        Two::And => Form::prefix(&[AND]),
-        Two::Until(Family::Plain) => Form::prefix(&[UNTIL]),
-        Two::Until(Family::Within) => Form::around(&[UNTIL, AND], &[EXE, AND], &[EXE]),
-        Two::Until(Family::Each(End::Reads)) => Form::around(
-            &[UNTIL, NOT, AND, INPUT, NOT],
-            &[AND, INPUT],
-            &[],
-        ),
-        Two::Until(Family::Each(End::Writes)) => Form::around(
-            &[UNTIL, NOT, AND, OUTPUT, NOT],
-            &[AND, OUTPUT],
-            &[],
-        ),
+impl Writing<'_> {
+    // The numbers before the operand.
+    pub fn one_before(&mut self, operator: One)
+        ensures { Puts (one_before operator) self.old self.new }
+    {
+        match operator {
+            One::Not => self.put(&[NOT]),
+            One::Next(Family::Plain) => self.put(&[NEXT]),
+            One::Next(Family::Within) => self.put(&[NEXT, AND, EXE]),
+            One::Next(Family::Each(end)) => {
+                let mark = mark_of(end);
+                self.put(&[
+                    UNTIL, NOT, mark, AND, mark, NEXT, UNTIL, NOT, mark, AND, mark,
+                ])
+            }
+            One::Ever(Family::Plain) => self.put(&[EVER]),
+            One::Ever(Family::Within) => self.put(&[UNTIL, NOT, OUTPUT, AND, EXE]),
+            One::Ever(Family::Each(end)) => self.put(&[EVER, AND, mark_of(end)]),
+            One::Always(Family::Plain) => self.put(&[ALWAYS]),
+            One::Always(Family::Within) => self.put(&[UNTIL, AND]),
+            One::Always(Family::Each(end)) => self.put(&[ALWAYS, NOT, AND, mark_of(end), NOT]),
+        }
+    }
+
+    // The numbers behind the operand. Only G^e has any: Exe, and then Output.
+    #[tactic(auto, using(crate::proofs::Putting::puts_none))]
+    pub fn one_behind(&mut self, operator: One)
+        ensures { Puts (one_behind operator) self.old self.new }
+    {
+        match operator {
+            One::Not | One::Next(_) | One::Ever(_) => {}
+            One::Always(Family::Plain | Family::Each(_)) => {}
+            One::Always(Family::Within) => self.put(&[EXE, OUTPUT]),
+        }
+    }
+
+    // The numbers before the first operand.
+    pub fn two_before(&mut self, operator: Two)
+        ensures { Puts (two_before operator) self.old self.new }
+    {
+        match operator {
+            Two::And => self.put(&[AND]),
+            Two::Until(Family::Plain) => self.put(&[UNTIL]),
+            Two::Until(Family::Within) => self.put(&[UNTIL, AND]),
+            Two::Until(Family::Each(end)) => self.put(&[UNTIL, NOT, AND, mark_of(end), NOT]),
+        }
+    }
+
+    // The numbers between the operands.
+    #[tactic(auto, using(crate::proofs::Putting::puts_none))]
+    pub fn two_between(&mut self, operator: Two)
+        ensures { Puts (two_between operator) self.old self.new }
+    {
+        match operator {
+            Two::And => {}
+            Two::Until(Family::Plain) => {}
+            Two::Until(Family::Within) => self.put(&[EXE, AND]),
+            Two::Until(Family::Each(end)) => self.put(&[AND, mark_of(end)]),
+        }
+    }
+
+    // The numbers behind the second operand. Only U^e has any: Exe.
+    #[tactic(auto, using(crate::proofs::Putting::puts_none))]
+    pub fn two_behind(&mut self, operator: Two)
+        ensures { Puts (two_behind operator) self.old self.new }
+    {
+        match operator {
+            Two::And => {}
+            Two::Until(Family::Plain | Family::Each(_)) => {}
+            Two::Until(Family::Within) => self.put(&[EXE]),
+        }
     }
 }

@@ -39,10 +39,9 @@ impl Writing<'_> {
     fn translate_one(&mut self, operator: One, code: &[u8], at: usize, depth: u16) -> usize
         ensures { Wrote (over_one operator (walk_at untranslated depth code.now at)) self.old self.new result }
     {
-        let form = forms::over_one(operator);
-        self.put(form.before);
+        self.one_before(operator);
         let next = self.translate_node(code, at, depth);
-        self.put(form.behind);
+        self.one_behind(operator);
         next
     }
 
@@ -52,12 +51,11 @@ impl Writing<'_> {
         ensures { Wrote (over_two operator (λ next. walk_at untranslated depth code.now next)
             (walk_at untranslated depth code.now at)) self.old self.new result }
     {
-        let form = forms::over_two(operator);
-        self.put(form.before);
+        self.two_before(operator);
         let second = self.translate_node(code, at, depth);
-        self.put(form.between);
+        self.two_between(operator);
         let next = self.translate_node(code, second, depth);
-        self.put(form.behind);
+        self.two_behind(operator);
         next
     }
 }

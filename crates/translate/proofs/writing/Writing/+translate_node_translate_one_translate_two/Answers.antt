@@ -34,14 +34,12 @@ translate_node-returns-in-OverTwo t c =
 pub translate_one-returns : goal.translate_one-returns
 translate_one-returns t c =
     let a = c.args in
-    let form = c.over_one-form.ensures in
-    wrote_one _ a.operator (walk_at untranslated a.depth a.code.now a.at) (rw form.before at c.put.ensures)
-    c.translate_node-next.ensures (rw form.behind at c.put-2.ensures)
+    wrote_one _ a.operator (walk_at untranslated a.depth a.code.now a.at) c.one_before.ensures
+    c.translate_node-next.ensures c.one_behind.ensures
 
 pub translate_two-returns : goal.translate_two-returns
 translate_two-returns t c =
     let a = c.args in
-    let form = c.over_two-form.ensures in
     wrote_two _ _ a.operator (λ next. walk_at untranslated a.depth a.code.now next)
-    (walk_at untranslated a.depth a.code.now a.at) (rw form.before at c.put.ensures) c.translate_node-second.ensures
-    (rw form.between at c.put-2.ensures) c.translate_node-next.ensures (rw form.behind at c.put-3.ensures)
+    (walk_at untranslated a.depth a.code.now a.at) c.two_before.ensures c.translate_node-second.ensures
+    c.two_between.ensures c.translate_node-next.ensures c.two_behind.ensures
