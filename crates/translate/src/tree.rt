@@ -21,6 +21,7 @@ impl Writing<'_> {
         };
         let next = found.next;
         match found.node {
+            // An atom is 31 at most.
             Node::Atom(k) => {
                 self.put(&[forms::ATOM, (k % 256) as u8]);
                 next
