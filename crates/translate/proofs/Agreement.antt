@@ -71,7 +71,7 @@ accepted s out n e = go (ltb (length out) room_asked) refl e
   where
     go : (b : Bool) → ltb (length out) room_asked ≡ b → pick b (refused_at ShortBuffer room_asked) (answered (parsed Untranslated (code_at s 0))) ≡ Ok n →
         (room_asked ≤ length out) × (answered (parsed Untranslated (code_at s 0)) ≡ Ok n)
-    go true b a = let z : ◌≡◌ {A = ℕ} 0 1 = cc in absurd (omega arith)
+    go true b a = absurd cc
     go false b a = (ltb-false _ _ b, a)
 
 pub translation_is_read : (s out : List ℕ) (n : ℕ) → translated s out ≡ Ok n →
@@ -81,7 +81,7 @@ translation_is_read s out n e = let a = accepted s out n e in go a.0 (parsed Unt
   where
     go : room_asked ≤ length out → (p : Parsed) → parsed Untranslated (code_at s 0) ≡ p → answered p ≡ Ok n →
         (f : Requirement) × (parsed Untranslated (code_at s 0) ≡ whole f) × (parsed Translated (code_at (take n (over out 0 (translation p))) 0) ≡ whole (translate f))
-    go h (unread cause place) q a = let z : ◌≡◌ {A = ℕ} 0 1 = cc in absurd (omega arith)
+    go h (unread cause place) q a = absurd cc
     go h (whole f) q a =
         let fits = translation_fits f (read_is_code Untranslated (code_at s 0) f q).2 in
         let own = room_for_code (translate f) fits in

@@ -2,17 +2,16 @@
 -- Assumes nothing.
 use Prim.Native.Nat.{ℕ, ◌+◌, ◌≤◌, ◌<◌, min}
 use native.Mathlib.Omega.{arith}
-use native.Mathlib.Numerals.{add-one}
 use mathlib.Core.Path.{◌≡◌, refl, sym, ◌∙◌, ap}
 use mathlib.Core.Bool.{Bool, true, false}
 use mathlib.Core.List.{List, [], ◌∷◌, ◌++◌}
-use lib.ListN.{length, get_or, set, take, length-append}
-use lib.Seq.{take-suc, take_all}
+use lib.ListN.{length, set, length-append}
 use lib.Dec.{ltb}
 use borrow.Author.Tests.{ltb-true, ltb-false}
 use Rattle.coding.specs.Room.{over}
 use Rattle.coding.proofs.Bytes.{store₁, over_nil, over_length, over_append, over_full}
-use Rattle.translate.specs.Writing.{Put}
+use Rattle.translate.specs.Writing.{Put, Puts}
+use Rattle.translate.specs.declared.writing.Writing.{Writing}
 
 -- the buffer keeps its length, and the place stays within it
 pub put_length : {d e xs : List ℕ} {at r : ℕ} → Put d at xs e r → (length e ≡ length d) × (r ≤ length d)
@@ -48,10 +47,9 @@ joined {d} {d₁} {d₂} {xs} {ys} {at} {r₁} {r₂} p q =
       after = omega (arith, p.after, q.after, length-append xs ys);
     }
 
--- ---- one turn of the loop, and its end
-module _ {d e : List ℕ} {place at : ℕ} (bs : List ℕ) (i : ℕ) (p : Put d place (take i bs) e at) where
-  pub one_more : i < length bs → {e' : List ℕ} {r : ℕ} → Put e at (get_or bs i 0 ∷ []) e' r → Put d place (take (i + 1) bs) e' r
-  one_more h q = rw (add-one i, take-suc bs i 0 h) (joined p q)
+-- ---- the same of the buffer with its place
+pub puts_none : (a : Writing) → Puts [] a a
+puts_none a = record { put = put_none a.out.now a.place a.within; same = refl }
 
-  pub all_put : length bs ≤ i → Put d place bs e at
-  all_put h = rw (take_all i bs h) at p
+pub puts_both : {xs ys : List ℕ} {a b c : Writing} → Puts xs a b → Puts ys b c → Puts (xs ++ ys) a c
+puts_both p q = record { put = joined p.put q.put; same = q.same ∙ p.same }

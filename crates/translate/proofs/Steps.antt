@@ -1,11 +1,10 @@
 -- What the recursion has written, on each way through it.
 -- Assumes nothing.
 use Rattle.std.specs.Prelude.{Err}
-use Prim.Native.Nat.{ℕ, ◌-◌, ◌≤◌, ◌%◌}
+use Prim.Native.Nat.{ℕ, ◌-◌, ◌%◌}
 use native.Mathlib.Omega.{arith}
 use mathlib.Core.Path.{◌≡◌, refl, sym, ◌∙◌}
 use mathlib.Core.List.{List, [], ◌∷◌}
-use lib.ListN.{length}
 use Rattle.coding.specs.declared.Refusal.{Refusal}
 use Rattle.requirement.specs.Tags.{code_of, mark_no}
 use Rattle.requirement.specs.Reading.{node_at, node_then}
@@ -17,10 +16,10 @@ use Rattle.requirement.specs.declared.Node.{Node}
 use Rattle.requirement.specs.declared.Node.TheVariants.{Atom, Mark}
 use Rattle.requirement.proofs.Walking.{walk_down, atom_to_31}
 use Rattle.meaning.specs.Translation.{translate}
-use Rattle.translate.specs.Writing.{untranslated, one_before, one_behind, two_before, two_between, two_behind, Put, Wrote}
-use Rattle.translate.specs.declared.tree.Spot.{Spot}
+use Rattle.translate.specs.Writing.{untranslated, one_before, one_behind, two_before, two_between, two_behind, Puts, Wrote}
+use Rattle.translate.specs.declared.writing.Writing.{Writing}
 use Rattle.translate.proofs.Codes.{one_code, two_code}
-use Rattle.translate.proofs.Putting.{put_length, joined}
+use Rattle.translate.proofs.Putting.{puts_both}
 
 -- ---- a node at a place
 module _ (k : ℕ) (s : List ℕ) (at : ℕ) (h : k ≡ 0 → ⊥) where
@@ -34,36 +33,36 @@ module _ (k : ℕ) (s : List ℕ) (at : ℕ) (h : k ≡ 0 → ⊥) where
     pub by_node : (n : Node) → node ≡ n → walk_at untranslated k s at ≡ from_node (λ x. walk_at untranslated (k - 1) s x) n next
     by_node n g = walk_down untranslated s at k h (node_then n next) (found n g)
 
-    module _ {d d' : List ℕ} {place r : ℕ} where
-      pub wrote_atom : (a : ℕ) → node ≡ Atom a → Put d place (0 ∷ a % 256 ∷ []) d' r →
-          Wrote (walk_at untranslated k s at) d place d' (record { at = next; place = r }) × (r ≤ length d)
+    module _ {before after : Writing} where
+      pub wrote_atom : (a : ℕ) → node ≡ Atom a → Puts (0 ∷ a % 256 ∷ []) before after →
+          Wrote (walk_at untranslated k s at) before after next
       unfolding translate code_of
       wrote_atom a g p =
           let m : a % 256 ≡ a = omega (arith, atom_to_31 untranslated s at a next (found (Atom a) g)) in
-          rw (by_node (Atom a) g) ((refl, rw m at p), (put_length p).1)
+          rw (by_node (Atom a) g) (refl, rw m at p)
 
-      pub wrote_mark : (m : Phase) → node ≡ Mark m → (v : ℕ) → v ≡ mark_no m → Put d place (v ∷ []) d' r →
-          Wrote (walk_at untranslated k s at) d place d' (record { at = next; place = r }) × (r ≤ length d)
+      pub wrote_mark : (m : Phase) → node ≡ Mark m → (v : ℕ) → v ≡ mark_no m → Puts (v ∷ []) before after →
+          Wrote (walk_at untranslated k s at) before after next
       unfolding translate code_of
-      wrote_mark m g v n p = rw (by_node (Mark m) g) ((refl, rw n at p), (put_length p).1)
+      wrote_mark m g v n p = rw (by_node (Mark m) g) (refl, rw n at p)
 
 -- ---- an operator over one operand
-module _ {d d₁ d₂ d₃ : List ℕ} {place r₁ r₃ : ℕ} (o : One) (operand : Spot) where
-  pub wrote_one : (w : Walked) → Put d place (one_before o) d₁ r₁ → Wrote w d₁ r₁ d₂ operand → Put d₂ operand.place (one_behind o) d₃ r₃ →
-      Wrote (over_one o w) d place d₃ (record { at = operand.at; place = r₃ })
-  unfolding translate
-  wrote_one (walked f next) p q b = (q.0, rw (one_code o (translate f)) (joined p (joined q.1 b)))
-  wrote_one lost p q b = tt
+pub wrote_one : {a b c d : Writing} (next : ℕ) (o : One) (w : Walked) → Puts (one_before o) a b → Wrote w b c next →
+    Puts (one_behind o) c d → Wrote (over_one o w) a d next
+unfolding translate
+wrote_one next o (walked f place) p q r = (q.0, rw (one_code o (translate f)) (puts_both p (puts_both q.1 r)))
+wrote_one next o lost p q r = tt
 
 -- ---- an operator over two operands
-module _ {d d₁ d₂ d₃ d₄ d₅ : List ℕ} {place r₁ r₃ r₅ : ℕ} (o : Two) (first second : Spot) where
-  pub wrote_two : (sub : ℕ → Walked) (w : Walked) → Put d place (two_before o) d₁ r₁ → Wrote w d₁ r₁ d₂ first → Put d₂ first.place (two_between o) d₃ r₃ →
-      Wrote (sub first.at) d₃ r₃ d₄ second → Put d₄ second.place (two_behind o) d₅ r₅ →
-      Wrote (over_two o sub w) d place d₅ (record { at = second.at; place = r₅ })
+module _ {a b c d e f : Writing} (second next : ℕ) (o : Two) where
+  pub wrote_two : (sub : ℕ → Walked) (w : Walked) → Puts (two_before o) a b → Wrote w b c second →
+      Puts (two_between o) c d → Wrote (sub second) d e next → Puts (two_behind o) e f →
+      Wrote (over_two o sub w) a f next
   unfolding translate
-  wrote_two sub lost p q b q₂ e = tt
-  wrote_two sub (walked f next) p q b q₂ e = rw (← q.0) (go (sub first.at) q₂)
+  wrote_two sub lost p q r s t = tt
+  wrote_two sub (walked g place) p q r s t = rw (← q.0) (go (sub second) s)
     where
-      go : (w : Walked) → Wrote w d₃ r₃ d₄ second → Wrote (with_second o f w) d place d₅ (record { at = second.at; place = r₅ })
-      go lost q₂ = tt
-      go (walked g after) q₂ = (q₂.0, rw (two_code o (translate f) (translate g)) (joined p (joined q.1 (joined b (joined q₂.1 e)))))
+      go : (w : Walked) → Wrote w d e next → Wrote (with_second o g w) a f next
+      go lost s = tt
+      go (walked h after) s =
+          (s.0, rw (two_code o (translate g) (translate h)) (puts_both p (puts_both q.1 (puts_both r (puts_both s.1 t)))))

@@ -22,7 +22,7 @@ use Rattle.requirement.specs.declared.Two.{Two}
 use Rattle.requirement.specs.declared.Two.TheVariants.{And, Until}
 use Rattle.meaning.specs.Phases.{phase_of}
 use Rattle.meaning.specs.Translation.{translate}
-use Rattle.translate.specs.declared.tree.Spot.{Spot}
+use Rattle.translate.specs.declared.writing.Writing.{Writing}
 
 -- Translating reads untranslated requirements.
 abbrev pub untranslated : Kind
@@ -112,7 +112,12 @@ pub record Put (d : List ℕ) (at : ℕ) (xs d' : List ℕ) (r : ℕ) : Type 0 w
   pub holds : d' ≡ over d at xs
   pub after : r ≡ min (length d) (at + length xs)
 
+-- The bytes are put at the place in the buffer, and the next place is the one after them.
+pub record Puts (xs : List ℕ) (before after : Writing) : Type 0 where
+  pub put : Put before.out.now before.place xs after.out.now after.place
+  pub same : after.out.ghost_name ≡ before.out.ghost_name
+
 -- What the recursion promises: of a requirement that was walked, the place after its code, and the bytes of its translation.
-abbrev pub Wrote : Walked → List ℕ → ℕ → List ℕ → Spot → Type 0
-Wrote (walked f next) d at d' r = (r.at ≡ next) × Put d at (code_of (translate f)) d' r.place
-Wrote lost d at d' r = Unit
+abbrev pub Wrote : Walked → Writing → Writing → ℕ → Type 0
+Wrote (walked f next) before after r = (r ≡ next) × Puts (code_of (translate f)) before after
+Wrote lost before after r = Unit

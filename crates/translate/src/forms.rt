@@ -1,168 +1,124 @@
-// The numbers of a form before, between and behind its operands. Each is below 128, so it is its own byte.
-ghost use Rattle.std.specs.Prelude.{◌≡◌, ◌≤◌, [], ◌∷◌, length};
+// The translation table: the numbers of each operator's form before, between and behind the codes of its operands. Each
+// number is below 128, so it is its own byte. (A function for each place, with the numbers where they are put: a table
+// that answers an operator's three rows was tried, and translating took 18 in 100 longer.)
+ghost use Rattle.std.specs.Prelude.{◌≡◌};
 ghost use Rattle.requirement.specs.Tags.{mark_no};
-ghost use Rattle.translate.specs.Writing.{mark_of, next_before, ever_before, always_before, one_before, one_behind, two_before, two_between, two_behind, Put};
+ghost use Rattle.translate.specs.Writing.{mark_of, one_before, one_behind, two_before, two_between, two_behind, Puts};
 
+use crate::writing::Writing;
 use requirement::{End, Family, One, Phase, Two};
 
-// Puts one byte at a place, if there is room. The place after it.
-fn put_one(byte: u8, out: &mut [u8], place: usize) -> usize
-    requires { place ≤ length out.old }
-    ensures { Put out.old place (byte ∷ []) out.new result }
-{
-    if place < out.len() {
-        out[place] = byte;
-        return place + 1;
-    }
-    place
-}
+pub const ATOM: u8 = 0;
 
-// Puts bytes from a place on, as far as there is room. The place after them.
-pub fn put_all(bytes: &[u8], out: &mut [u8], place: usize) -> usize
-    requires { place ≤ length out.old }
-    ensures { Put out.old place bytes.now out.new result }
-{
-    let mut at = place;
-    for byte in bytes {
-        at = put_one(*byte, out, at);
-    }
-    at
-}
+const NOT: u8 = 1;
 
+const AND: u8 = 2;
+
+const INPUT: u8 = 3;
+
+const EXE: u8 = 4;
+
+const OUTPUT: u8 = 5;
+
+const NEXT: u8 = 8;
+
+const EVER: u8 = 9;
+
+const ALWAYS: u8 = 10;
+
+const UNTIL: u8 = 11;
+
+// The number of a mark. (Not `u8::from`: the marks are a type of `requirement`.)
 pub fn mark_number(mark: Phase) -> u8
     ensures { result ≡ mark_no mark }
 {
     match mark {
-        Phase::Input => 3,
-        Phase::Exe => 4,
-        Phase::Output => 5,
+        Phase::Input => INPUT,
+        Phase::Exe => EXE,
+        Phase::Output => OUTPUT,
     }
 }
 
+// The number of the mark of an end. (Not `u8::from`: the ends are a type of `requirement` too.)
 fn mark_of(end: End) -> u8
     ensures { result ≡ mark_of end }
 {
     match end {
-        End::Reads => mark_number(Phase::Input),
-        End::Writes => mark_number(Phase::Output),
+        End::Reads => INPUT,
+        End::Writes => OUTPUT,
     }
 }
 
-fn next_before(family: Family, out: &mut [u8], place: usize) -> usize
-    requires { place ≤ length out.old }
-    ensures { Put out.old place (next_before family) out.new result }
-{
-    match family {
-        Family::Plain => put_all(&[8], out, place),
-        Family::Within => put_all(&[8, 2, 4], out, place),
-        Family::Each(end) => {
-            let m = mark_of(end);
-            put_all(&[11, 1, m, 2, m, 8, 11, 1, m, 2, m], out, place)
-        }
-    }
-}
-
-fn ever_before(family: Family, out: &mut [u8], place: usize) -> usize
-    requires { place ≤ length out.old }
-    ensures { Put out.old place (ever_before family) out.new result }
-{
-    match family {
-        Family::Plain => put_all(&[9], out, place),
-        Family::Within => put_all(&[11, 1, 5, 2, 4], out, place),
-        Family::Each(end) => {
-            let m = mark_of(end);
-            put_all(&[9, 2, m], out, place)
-        }
-    }
-}
-
-fn always_before(family: Family, out: &mut [u8], place: usize) -> usize
-    requires { place ≤ length out.old }
-    ensures { Put out.old place (always_before family) out.new result }
-{
-    match family {
-        Family::Plain => put_all(&[10], out, place),
-        Family::Within => put_all(&[11, 2], out, place),
-        Family::Each(end) => {
-            let m = mark_of(end);
-            put_all(&[10, 1, 2, m, 1], out, place)
-        }
-    }
-}
-
-pub fn one_before(operator: One, out: &mut [u8], place: usize) -> usize
-    requires { place ≤ length out.old }
-    ensures { Put out.old place (one_before operator) out.new result }
-{
-    match operator {
-        One::Not => put_all(&[1], out, place),
-        One::Next(family) => next_before(family, out, place),
-        One::Ever(family) => ever_before(family, out, place),
-        One::Always(family) => always_before(family, out, place),
-    }
-}
-
-// Only G^e has something behind its operand: Exe, and then Output.
-pub fn one_behind(operator: One, out: &mut [u8], place: usize) -> usize
-    requires { place ≤ length out.old }
-    ensures { Put out.old place (one_behind operator) out.new result }
-{
-    match operator {
-        One::Not => place,
-        One::Next(_) => place,
-        One::Ever(_) => place,
-        One::Always(family) => match family {
-            Family::Plain => place,
-            Family::Within => put_all(&[4, 5], out, place),
-            Family::Each(_) => place,
-        },
-    }
-}
-
-pub fn two_before(operator: Two, out: &mut [u8], place: usize) -> usize
-    requires { place ≤ length out.old }
-    ensures { Put out.old place (two_before operator) out.new result }
-{
-    match operator {
-        Two::And => put_all(&[2], out, place),
-        Two::Until(family) => match family {
-            Family::Plain => put_all(&[11], out, place),
-            Family::Within => put_all(&[11, 2], out, place),
-            Family::Each(end) => {
-                let m = mark_of(end);
-                put_all(&[11, 1, 2, m, 1], out, place)
+impl Writing<'_> {
+    // The numbers before the operand.
+    pub fn one_before(&mut self, operator: One)
+        ensures { Puts (one_before operator) self.old self.new }
+    {
+        match operator {
+            One::Not => self.put(&[NOT]),
+            One::Next(Family::Plain) => self.put(&[NEXT]),
+            One::Next(Family::Within) => self.put(&[NEXT, AND, EXE]),
+            One::Next(Family::Each(end)) => {
+                let mark = mark_of(end);
+                self.put(&[
+                    UNTIL, NOT, mark, AND, mark, NEXT, UNTIL, NOT, mark, AND, mark,
+                ])
             }
-        },
+            One::Ever(Family::Plain) => self.put(&[EVER]),
+            One::Ever(Family::Within) => self.put(&[UNTIL, NOT, OUTPUT, AND, EXE]),
+            One::Ever(Family::Each(end)) => self.put(&[EVER, AND, mark_of(end)]),
+            One::Always(Family::Plain) => self.put(&[ALWAYS]),
+            One::Always(Family::Within) => self.put(&[UNTIL, AND]),
+            One::Always(Family::Each(end)) => self.put(&[ALWAYS, NOT, AND, mark_of(end), NOT]),
+        }
     }
-}
 
-pub fn two_between(operator: Two, out: &mut [u8], place: usize) -> usize
-    requires { place ≤ length out.old }
-    ensures { Put out.old place (two_between operator) out.new result }
-{
-    match operator {
-        Two::And => place,
-        Two::Until(family) => match family {
-            Family::Plain => place,
-            Family::Within => put_all(&[4, 2], out, place),
-            Family::Each(end) => {
-                let m = mark_of(end);
-                put_all(&[2, m], out, place)
-            }
-        },
+    // The numbers behind the operand. Only G^e has any: Exe, and then Output.
+    #[tactic(auto, using(crate::proofs::Putting::puts_none))]
+    pub fn one_behind(&mut self, operator: One)
+        ensures { Puts (one_behind operator) self.old self.new }
+    {
+        match operator {
+            One::Not | One::Next(_) | One::Ever(_) => {}
+            One::Always(Family::Plain | Family::Each(_)) => {}
+            One::Always(Family::Within) => self.put(&[EXE, OUTPUT]),
+        }
     }
-}
 
-pub fn two_behind(operator: Two, out: &mut [u8], place: usize) -> usize
-    requires { place ≤ length out.old }
-    ensures { Put out.old place (two_behind operator) out.new result }
-{
-    match operator {
-        Two::And => place,
-        Two::Until(family) => match family {
-            Family::Plain => place,
-            Family::Within => put_all(&[4], out, place),
-            Family::Each(_) => place,
-        },
+    // The numbers before the first operand.
+    pub fn two_before(&mut self, operator: Two)
+        ensures { Puts (two_before operator) self.old self.new }
+    {
+        match operator {
+            Two::And => self.put(&[AND]),
+            Two::Until(Family::Plain) => self.put(&[UNTIL]),
+            Two::Until(Family::Within) => self.put(&[UNTIL, AND]),
+            Two::Until(Family::Each(end)) => self.put(&[UNTIL, NOT, AND, mark_of(end), NOT]),
+        }
+    }
+
+    // The numbers between the operands.
+    #[tactic(auto, using(crate::proofs::Putting::puts_none))]
+    pub fn two_between(&mut self, operator: Two)
+        ensures { Puts (two_between operator) self.old self.new }
+    {
+        match operator {
+            Two::And => {}
+            Two::Until(Family::Plain) => {}
+            Two::Until(Family::Within) => self.put(&[EXE, AND]),
+            Two::Until(Family::Each(end)) => self.put(&[AND, mark_of(end)]),
+        }
+    }
+
+    // The numbers behind the second operand. Only U^e has any: Exe.
+    #[tactic(auto, using(crate::proofs::Putting::puts_none))]
+    pub fn two_behind(&mut self, operator: Two)
+        ensures { Puts (two_behind operator) self.old self.new }
+    {
+        match operator {
+            Two::And => {}
+            Two::Until(Family::Plain | Family::Each(_)) => {}
+            Two::Until(Family::Within) => self.put(&[EXE]),
+        }
     }
 }

@@ -1,16 +1,19 @@
-use mathlib.Core.Path.{refl}
+use Rattle.std.proofs.Common.{refl, rules}
 use Rattle.std.proofs.lemmas.Result.{err_from_is_err_and}
 use Rattle.translate.proofs.Answers.{too_short, not_read, was_read}
 use Rattle.translate.proofs.translate.Goals as goal
 
-pub returns-then-out-lt1408 : goal.returns-then-out-lt1408
-returns-then-out-lt1408 c = rw c.at.ensures (too_short _ _ c.if-out-lt1408.true)
+pub returns-then-out-lt-ROOM_ASKED : goal.returns-then-out-lt-ROOM_ASKED
+returns-then-out-lt-ROOM_ASKED c = rw c.at.ensures (too_short _ _ c.if-out-lt-ROOM_ASKED.true)
 
 pub returns-in_err-checked : goal.returns-in_err-checked
 returns-in_err-checked c =
     let p = err_from_is_err_and c.from_residual.result c.from_residual.ensures.1 in
-    rw (p.1, p.2) (not_read _ _ c.if-out-lt1408.false _ c.in_err-checked.ensures, refl)
+    rw (p.1, p.2) (not_read _ _ c.if-out-lt-ROOM_ASKED.false _ c.in_err-checked.ensures, refl)
 
 pub returns : goal.returns
 returns c =
-    was_read _ _ c.if-out-lt1408.false _ c.in_ok-checked.ensures _ c.translate_node-end.result c.translate_node-end.ensures.0
+    let all =
+    was_read _ _ c.if-out-lt-ROOM_ASKED.false _ c.in_ok-checked.ensures _ c.translate_node.new.self _ refl refl
+    c.translate_node.ensures in
+    (all.0.0, search rules)

@@ -1,28 +1,25 @@
-use native.Mathlib.Omega.{arith}
 use Rattle.requirement.specs.Walking.{walk_at}
 use Rattle.requirement.proofs.Walking.{walk_none}
 use Rattle.translate.specs.Writing.{untranslated}
-use Rattle.translate.proofs.Putting.{put_length}
 use Rattle.translate.proofs.Steps.{no_node, by_node, wrote_atom, wrote_mark, wrote_one, wrote_two}
-use Rattle.translate.proofs.tree.+translate_node_translate_one_translate_two.Goals as goal
+use Rattle.translate.proofs.writing.Writing.+translate_node_translate_one_translate_two.Goals as goal
 
 pub translate_node-returns-then-depth-eq0 : goal.translate_node-returns-then-depth-eq0
 translate_node-returns-then-depth-eq0 t c =
-    rw (walk_none _ _ _ _ c.if-depth-eq0.true) (tt, c.requires)
+    rw (walk_none _ _ _ _ c.if-depth-eq0.true) tt
 
 pub translate_node-returns-in_default : goal.translate_node-returns-in_default
 translate_node-returns-in_default t c =
-    rw (no_node _ _ _ c.if-depth-eq0.false _ c.in_default.ensures) (tt, c.requires)
+    rw (no_node _ _ _ c.if-depth-eq0.false _ c.in_default.ensures) tt
 
 pub translate_node-returns-in-Atom : goal.translate_node-returns-in-Atom
 translate_node-returns-in-Atom t c =
-    wrote_atom _ _ _ c.if-depth-eq0.false _ _ c.in-Ok.ensures _ c.in-Atom.is
-    c.put_all-end.ensures
+    wrote_atom _ _ _ c.if-depth-eq0.false _ _ c.in-Ok.ensures _ c.in-Atom.is c.put.ensures
 
 pub translate_node-returns-in-Mark : goal.translate_node-returns-in-Mark
 translate_node-returns-in-Mark t c =
     wrote_mark _ _ _ c.if-depth-eq0.false _ _ c.in-Ok.ensures _ c.in-Mark.is _
-    c.mark_number.ensures c.put_all-end-in-Mark.ensures
+    c.mark_number.ensures c.put-in-Mark.ensures
 
 pub translate_node-returns-in-OverOne : goal.translate_node-returns-in-OverOne
 translate_node-returns-in-OverOne t c =
@@ -37,28 +34,12 @@ translate_node-returns-in-OverTwo t c =
 pub translate_one-returns : goal.translate_one-returns
 translate_one-returns t c =
     let a = c.args in
-    let p = c.one_before-begin.ensures in
-    let b = c.one_behind-end.ensures in (
-      wrote_one _ c.translate_node-operand.result (walk_at untranslated a.depth a.code.now a.at) p
-          c.translate_node-operand.ensures.0 b,
-      omega (arith, put_length p, put_length b, c.translate_node-operand.auto.out),
-    )
+    wrote_one _ a.operator (walk_at untranslated a.depth a.code.now a.at) c.one_before.ensures
+    c.translate_node-next.ensures c.one_behind.ensures
 
 pub translate_two-returns : goal.translate_two-returns
 translate_two-returns t c =
     let a = c.args in
-    let p = c.two_before-begin.ensures in
-    let b = c.two_between-second_begin.ensures in
-    let e = c.two_behind-end.ensures in (
-      wrote_two _ c.translate_node-first.result c.translate_node-second.result
-          (λ next. walk_at untranslated a.depth a.code.now next) (walk_at untranslated a.depth a.code.now a.at) p
-          c.translate_node-first.ensures.0 b c.translate_node-second.ensures.0 e,
-      omega (
-        arith,
-        put_length p,
-        put_length b,
-        put_length e,
-        c.translate_node-first.auto.out,
-        c.translate_node-second.auto.out,
-      ),
-    )
+    wrote_two _ _ a.operator (λ next. walk_at untranslated a.depth a.code.now next)
+    (walk_at untranslated a.depth a.code.now a.at) c.two_before.ensures c.translate_node-second.ensures
+    c.two_between.ensures c.translate_node-next.ensures c.two_behind.ensures

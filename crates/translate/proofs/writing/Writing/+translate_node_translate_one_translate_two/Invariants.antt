@@ -1,5 +1,5 @@
-use Prim.Native.Nat.{◌+◌, ◌*◌}
-use Rattle.translate.proofs.tree.+translate_node_translate_one_translate_two.Given as goal
+use Rattle.std.proofs.Common.{◌+◌, ◌*◌}
+use Rattle.translate.proofs.writing.Writing.+translate_node_translate_one_translate_two.Given as goal
 
 -- Each member's measure is twice the depth, and one more at an operator.
 abbrev pub decreases-translate_node : goal.decreases-translate_node
