@@ -78,9 +78,9 @@ pub two≤ : (v : ℕ) → 128 ≤ v → 2 ≤ length (bytes_of v)
 unfolding bytes_of
 two≤ v g = rw (le-ltb _ _ g) (pick≥ (ltb v 16384) _ _ 2 (lit≤ tt) (lit≤ tt))
 
-pub three≥ : (v : ℕ) → length (bytes_of v) ≤ 3
+pub three_at_most : (v : ℕ) → length (bytes_of v) ≤ 3
 unfolding bytes_of
-three≥ v = pick≤ (ltb v 128) _ _ (lit≤ tt) (pick≤ (ltb v 16384) _ _ (lit≤ tt) (lit≤ tt))
+three_at_most v = pick≤ (ltb v 128) _ _ (lit≤ tt) (pick≤ (ltb v 16384) _ _ (lit≤ tt) (lit≤ tt))
   where
     pick≤ : (b : Bool) (x y : List ℕ) → length x ≤ 3 → length y ≤ 3 → length (pick b x y) ≤ 3
     pick≤ true x y p q = p

@@ -54,3 +54,6 @@ module _ (s : List ℕ) (at : ℕ) where
               pub three : get_or s (at + 1 + 1) 0 ≤ 3 →
                   value_then (get_or s at 0 - 128 + (get_or s (at + 1) 0 - 128) * 128 + get_or s (at + 1 + 1) 0 * 16384) (at + 1 + 1 + 1) ≡ number_at s at
               three lo = rw (more₂, drop_at s (at + 1 + 1) h₂, ne_eqb _ _ nz₂, le-ltb _ _ lo, add_assoc (at + 1) 1 1, add_assoc at 1 2)
+
+-- every way through `read_number`
+pub ruleset ways = (no_first, one, no_second, zero_second, two, no_third, zero_third, big_third, three)

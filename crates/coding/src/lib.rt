@@ -96,13 +96,14 @@ pub fn number_of(cause: Cause) -> u8
 }
 
 // The number whose first byte is at `at`.
+#[tactic(auto, using(crate::proofs::Numbers::ways))]
 pub fn read_number(code: &[u8], at: usize) -> Result<Number, Refusal>
     ensures { result ≡ number_at code.now at }
 {
     if code.len() <= at {
         return Err(Cause::CutShort.at(at));
     }
-    let a = code[at] as u16;
+    let a = u16::from(code[at]);
     let i = at + 1;
     if a < 128 {
         return Ok(Number { value: a, next: i });
@@ -110,7 +111,7 @@ pub fn read_number(code: &[u8], at: usize) -> Result<Number, Refusal>
     if code.len() <= i {
         return Err(Cause::CutShort.at(at));
     }
-    let b = code[i] as u16;
+    let b = u16::from(code[i]);
     if b == 0 {
         return Err(Cause::NotShortest.at(at));
     }
@@ -126,7 +127,7 @@ pub fn read_number(code: &[u8], at: usize) -> Result<Number, Refusal>
     if code.len() <= j {
         return Err(Cause::CutShort.at(at));
     }
-    let c = code[j] as u16;
+    let c = u16::from(code[j]);
     if c == 0 {
         return Err(Cause::NotShortest.at(at));
     }
@@ -136,10 +137,7 @@ pub fn read_number(code: &[u8], at: usize) -> Result<Number, Refusal>
     let two = low + (b - 128) * 128;
     let three = two + c * 16384;
     let next = j + 1;
-    Ok(Number {
-        value: three,
-        next: next,
-    })
+    Ok(Number { value: three, next })
 }
 
 // The block whose length stands at a place: so many bytes behind it.
@@ -160,19 +158,21 @@ pub fn block_at(code: &[u8], at: usize) -> Result<Span, Refusal>
 }
 
 // How many bytes a number takes.
+#[tactic(auto, unfolding(crate::specs::Number::bytes_of))]
 pub fn size_of(v: u16) -> usize
     ensures { result ≡ length (bytes_of v) }
 {
     if v < 128 {
-        return 1;
+        1
+    } else if v < 16384 {
+        2
+    } else {
+        3
     }
-    if v < 16384 {
-        return 2;
-    }
-    3
 }
 
 // The number's bytes from `at` on, where there is room for them. The place after them.
+#[tactic(auto, unfolding(crate::specs::Number::bytes_of, crate::specs::Room::over))]
 fn put(v: u16, buf: &mut [u8], at: usize) -> usize
     requires { at + length (bytes_of v) ≤ length buf.old }
     ensures { (result ≡ at + length (bytes_of v)) × (buf.new ≡ over buf.old at (bytes_of v)) }
@@ -192,6 +192,7 @@ fn put(v: u16, buf: &mut [u8], at: usize) -> usize
 }
 
 // The number's bytes from the buffer's first byte on, or nothing, for want of room.
+#[tactic(auto, unfolding(crate::specs::Room::wrote_number))]
 pub fn write_number(v: u16, buf: &mut [u8]) -> Answer
     ensures { (result ≡ wrote_number v buf.old) × (buf.new ≡ stored result buf.old (bytes_of v)) }
 {
@@ -209,6 +210,7 @@ pub fn count_numbers(code: &[u8]) -> usize
 {
     let mut at: usize = 0;
     let mut n: usize = 0;
+    // No `for`: how long a number is shows only when it is read, so there is no index to range over.
     while let Ok(number) = read_number(code, at) {
         n += 1;
         at = number.next;
@@ -217,6 +219,7 @@ pub fn count_numbers(code: &[u8]) -> usize
 }
 
 // Stores the code's numbers, from the first on, until the code or the room ends.
+#[tactic(auto, using(crate::proofs::Bytes::over_full))]
 pub fn store_numbers(code: &[u8], out: &mut [u16])
     ensures { out.new ≡ over out.old 0 (values (code_at code.now 0)) }
 {
@@ -231,6 +234,7 @@ pub fn store_numbers(code: &[u8], out: &mut [u16])
 }
 
 // How many bytes a row of numbers takes.
+#[tactic(auto, using(crate::proofs::Loops::sizes))]
 pub fn size_of_all(numbers: &[u16]) -> usize
     ensures { result ≡ length (bytes_of_all numbers.now) }
 {
@@ -242,6 +246,7 @@ pub fn size_of_all(numbers: &[u16]) -> usize
 }
 
 // Stores the bytes of a row of numbers, for which there is room.
+#[tactic(auto, using(crate::specs::Working::Rows::bytes_none, crate::proofs::Bytes::over_nil))]
 fn store_bytes(numbers: &[u16], buf: &mut [u8])
     requires { length (bytes_of_all numbers.now) ≤ length buf.old }
     ensures { buf.new ≡ over buf.old 0 (bytes_of_all numbers.now) }

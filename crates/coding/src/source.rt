@@ -40,6 +40,7 @@ impl Source for &[u16] {
 
     ghost turns = { λ numbers. numbers_turn numbers.now };
 
+    #[tactic(auto, unfolding(crate::specs::Code::number_in))]
     fn number_at(self, at: usize) -> Result<Number, Refusal> {
         match self.get(at) {
             Some(value) => Ok(Number {

@@ -36,3 +36,6 @@ module _ (s : List ℕ) (p : ℕ) where
     pub atom_within : a < 32 → atom_at s a p ≡ atom_b s a p
     unfolding atom_at
     atom_within h = rw (lt-ltb a 32 h) refl
+
+-- every way through `atom_at`
+pub ruleset atoms = (above, no_atom, atom_digit)

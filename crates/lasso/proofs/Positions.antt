@@ -36,3 +36,6 @@ module _ (s : List ℕ) (p : ℕ) where
 
     pub no_more : (n ≡ 0 → ⊥) → m ≡ count_b (mark_b s 0) (p + 1)
     no_more n₀ = rw (counted, ← e, ne_eqb _ _ n₀) (omega arith)
+
+-- a position counted, or not
+pub ruleset counts = (one_more, no_more)

@@ -32,20 +32,19 @@ fn phase_in(trace: &[u8], p: usize) -> u8
 }
 
 // The phase byte of a position; 0 past the end.
+#[tactic(auto, using(crate::proofs::Looking::no_phase))]
 pub fn phase_byte(trace: &[u8], p: usize) -> u8
     ensures { result ≡ phase_byte trace.now p }
 {
     if trace.len() / 5 < p {
-        return 0;
+        0
+    } else {
+        trace.get(p * 5).copied().unwrap_or(0)
     }
-    let at = p * 5;
-    if at < trace.len() {
-        return trace[at];
-    }
-    0
 }
 
 // Digit k of x, for k below 8.
+#[tactic(auto, using(bits::proofs::Digits::bit_shr))]
 fn digit_of(x: u8, k: u16) -> bool
     requires { k < 8 }
     ensures { result ≡ bit_b x k }
@@ -54,50 +53,31 @@ fn digit_of(x: u8, k: u16) -> bool
 }
 
 // Whether atom a holds at a position; none above 31 does, and none past the end.
+#[tactic(auto, using(crate::proofs::Looking::atoms))]
 pub fn atom_at(trace: &[u8], p: usize, a: u16) -> bool
     ensures { result ≡ atom_at trace.now a p }
 {
-    if 31 < a {
+    if 31 < a || trace.len() / 5 < p {
         return false;
     }
-    if trace.len() / 5 < p {
-        return false;
+    match trace.get(p * 5 + 1 + usize::from(a / 8)) {
+        Some(byte) => digit_of(*byte, a % 8),
+        None => false,
     }
-    let at = p * 5 + 1 + (a / 8) as usize;
-    if at < trace.len() {
-        return digit_of(trace[at], a % 8);
-    }
-    false
 }
 
+#[tactic(auto, unfolding(crate::specs::Checking::length_ok))]
 fn length_ok(n: usize) -> bool
     ensures { result ≡ length_ok n }
 {
-    if n == 0 {
-        return false;
-    }
-    if 20480 < n {
-        return false;
-    }
-    n % 5 == 0
+    (1..=20480).contains(&n) && n % 5 == 0
 }
 
+#[tactic(auto, unfolding(crate::specs::Checking::may_follow))]
 fn may_follow(p: u8, q: u8) -> bool
     ensures { result ≡ may_follow p q }
 {
-    if p == 0 {
-        return q == 1;
-    }
-    if p == 1 {
-        if q == 1 {
-            return true;
-        }
-        return q == 2;
-    }
-    if p == 2 {
-        return q == 0;
-    }
-    false
+    matches!((p, q), (0, 1) | (1, 1 | 2) | (2, 0))
 }
 
 // The position after p of a lasso of n positions.
@@ -105,16 +85,15 @@ fn after(n: usize, start: usize, p: usize) -> usize
     requires { p < n }
     ensures { result ≡ after_of n start p }
 {
-    if p + 1 < n {
-        return p + 1;
-    }
-    start
+    if p + 1 < n { p + 1 } else { start }
 }
 
 // Whether every position is a phase and is followed by what may follow it, at the join too; else the first that is not.
+#[tactic(auto, using(crate::proofs::Steps::steps))]
 fn check_steps(trace: &[u8], start: usize) -> Result<(), Refusal>
     requires { start < positions trace.now }
-    ensures { (fine : Answer) → result_and result fine ≡ steps_from may_follow trace.now start (positions trace.now) 0 fine }
+    ensures { (fine : Answer) →
+        result_and result fine ≡ steps_from may_follow trace.now start (positions trace.now) 0 fine }
 {
     let n = trace.len() / 5;
     for p in 0..n {
@@ -127,6 +106,7 @@ fn check_steps(trace: &[u8], start: usize) -> Result<(), Refusal>
 }
 
 // Whether the loop holds an Output.
+#[tactic(auto, using(crate::proofs::Steps::outputs))]
 fn output_in_loop(trace: &[u8], start: usize) -> bool
     ensures { result ≡ output_from trace.now (positions trace.now - start) start }
 {
@@ -139,6 +119,7 @@ fn output_in_loop(trace: &[u8], start: usize) -> bool
 }
 
 // A trace and its loop start: how many positions, or refusal 9.
+#[tactic(auto, using(crate::proofs::Steps::answers))]
 pub fn check(trace: &[u8], start: usize) -> Answer
     ensures { result ≡ check_trace trace.now start }
 {
@@ -158,6 +139,7 @@ pub fn check(trace: &[u8], start: usize) -> Answer
 }
 
 // How many positions are Input.
+#[tactic(auto, using(crate::proofs::Positions::counts), unfolding(bits::specs::Bits::count_b))]
 pub fn count_inputs(trace: &[u8]) -> usize
     ensures { result ≡ inputs_in trace.now }
 {

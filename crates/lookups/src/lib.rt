@@ -48,20 +48,22 @@ pub fn outputs(table: &[u16]) -> u16
 }
 
 // The source of output k, from 0.
+#[tactic(auto, unfolding(crate::specs::Places::source_of))]
 pub fn source(table: &[u16], k: u16) -> u16
     ensures { result ≡ source_of table.now k }
 {
-    places::number(table, 3 + k as usize)
+    places::number(table, 3 + usize::from(k))
 }
 
 // How many tests there are.
 pub fn tests(table: &[u16]) -> u16
     ensures { result ≡ tests_of table.now }
 {
-    places::number(table, 3 + outputs(table) as usize)
+    places::number(table, 3 + usize::from(outputs(table)))
 }
 
 // Test k, from 0.
+#[tactic(auto, unfolding(crate::specs::Places::test_of))]
 pub fn test(table: &[u16], k: u16) -> TestRow
     ensures { result ≡ test_of table.now k }
 {
@@ -95,6 +97,7 @@ pub fn actions(table: &[u16], p: u16, s: u16) -> u16
 }
 
 // Action a of state s of process p, each from 1.
+#[tactic(auto, unfolding(crate::specs::Places::action_of))]
 pub fn action(table: &[u16], p: u16, s: u16, a: u16) -> ActionRow
     ensures { result ≡ action_of table.now p s a }
 {
@@ -109,14 +112,16 @@ pub fn state_at(table: &[u16], p: u16, s: u16) -> usize
 }
 
 // Action a, from 1, of the state that has its count of actions at a place.
+#[tactic(auto, unfolding(crate::specs::Places::action_from), using(crate::proofs::Past::none_there))]
 pub fn action_from(table: &[u16], state: usize, a: u16) -> ActionRow
     ensures { result ≡ action_from table.now state a }
 {
     if table.len() <= state {
-        return ActionRow::default();
+        ActionRow::default()
+    } else {
+        let at = state + 1 + 6 * usize::from(a.saturating_sub(1));
+        places::row_from(table, at)
     }
-    let at = state + 1 + 6 * a.saturating_sub(1) as usize;
-    places::row_from(table, at)
 }
 
 // How many scans an inputs record has.
@@ -134,9 +139,10 @@ pub fn return_scan(recorded: &[u16]) -> u16
 }
 
 // What variable k of so many input variables takes when so many scans are done.
+#[tactic(auto, unfolding(crate::specs::Places::reading_of))]
 pub fn reading(recorded: &[u16], inputs: u16, done: u16, k: u16) -> u16
     ensures { result ≡ reading_of recorded.now inputs done k }
 {
-    let before = inputs as usize * done as usize;
-    places::number(recorded, 2 + before + k as usize)
+    let before = usize::from(inputs) * usize::from(done);
+    places::number(recorded, 2 + before + usize::from(k))
 }

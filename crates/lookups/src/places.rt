@@ -15,33 +15,35 @@ pub fn number(table: &[u16], at: usize) -> u16
 pub fn test_place(table: &[u16], k: u16) -> usize
     ensures { (result ≡ test_place table.now k) × (result < 300000) }
 {
-    let outputs = number(table, 2) as usize;
-    4 + outputs + 3 * k as usize
+    let outputs = usize::from(number(table, 2));
+    4 + outputs + 3 * usize::from(k)
 }
 
 // Where the count of processes stands.
 pub fn processes_place(table: &[u16]) -> usize
     ensures { (result ≡ processes_place table.now) × (result < 300000) }
 {
-    let outputs = number(table, 2) as usize;
+    let outputs = usize::from(number(table, 2));
     let tests = number(table, 3 + outputs);
     test_place(table, tests)
 }
 
 // The place after k states, from the place of the first one's count on.
+#[tactic(auto, using(crate::proofs::Passed::pass_state, crate::proofs::Passed::no_states))]
 fn after_states(table: &[u16], from: usize, k: u16) -> usize
     requires { from < 2 ^ 56 }
     ensures { (result ≡ after_states table.now k from) × (result ≤ from + 393211 * k) }
 {
     let mut at = from;
     for _ in 0..k {
-        let actions = number(table, at) as usize;
+        let actions = usize::from(number(table, at));
         at = at + 1 + 6 * actions;
     }
     at
 }
 
 // The place after k processes, from the place of the first one's count on.
+#[tactic(auto, using(crate::proofs::Passed::pass_process, crate::proofs::Passed::no_processes))]
 fn after_processes(table: &[u16], from: usize, k: u16) -> usize
     requires { from < 2 ^ 40 }
     ensures { (result ≡ after_processes table.now k from) × (result ≤ from + 2 ^ 35 * k) }
@@ -55,6 +57,7 @@ fn after_processes(table: &[u16], from: usize, k: u16) -> usize
 }
 
 // Where process p has its count of states.
+#[tactic(auto, unfolding(crate::specs::Places::process_place))]
 pub fn process_place(table: &[u16], p: u16) -> usize
     ensures { (result ≡ process_place table.now p) × (result < 2 ^ 52) }
 {
@@ -63,6 +66,7 @@ pub fn process_place(table: &[u16], p: u16) -> usize
 }
 
 // Where state s of process p has its count of actions.
+#[tactic(auto, unfolding(crate::specs::Places::state_place))]
 pub fn state_place(table: &[u16], p: u16, s: u16) -> usize
     ensures { (result ≡ state_place table.now p s) × (result < 2 ^ 57) }
 {
@@ -71,6 +75,7 @@ pub fn state_place(table: &[u16], p: u16, s: u16) -> usize
 }
 
 // The six numbers from a place on.
+#[tactic(auto, unfolding(crate::specs::Places::row_from))]
 pub fn row_from(table: &[u16], at: usize) -> ActionRow
     requires { at < 2 ^ 63 + 2 ^ 20 }
     ensures { result ≡ row_from table.now at }

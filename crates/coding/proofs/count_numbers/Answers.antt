@@ -9,11 +9,6 @@ returns c =
     let e = c.in_default.ensures in
     omega (arith, c.loop-number.invariant.0, ap length (no_values _ _ _ _ e))
 
-pub overflow_add-n : goal.overflow_add-n
-overflow_add-n c =
-    let e = c.in-Ok.ensures in
-    omega (arith, next_row _ _ _ _ e)
-
 pub loop-number-smaller : goal.loop-number-smaller
 loop-number-smaller c =
     let e = c.in-Ok.ensures in

@@ -1,8 +1,6 @@
-use Prim.Native.Nat.{◌≤◌}
-use native.Mathlib.Omega.{arith}
 use Rattle.std.proofs.lemmas.List.{set-get_or}
-use lib.ListN.{length, length-set}
-use Rattle.coding.proofs.Bytes.{over_cons, over_nil, over_full}
+use lib.ListN.{length-set}
+use Rattle.coding.proofs.Bytes.{over_cons, over_nil}
 use Rattle.coding.specs.Working.Rows.{no_values, next_values}
 use Rattle.coding.proofs.store_numbers.Goals as goal
 
@@ -15,8 +13,3 @@ pub loop-element-preserved : goal.loop-element-preserved
 loop-element-preserved c =
     let e = c.in-Ok.ensures in
     (rw (← c.loop-element.invariant.0, next_values _ _ _ _ e, over_cons), simp length-set c.loop-element.invariant.1)
-
-pub returns : goal.returns
-returns c =
-    let h : length c.loop-element.out ≤ c.loop-element.element-index = omega (arith, c.loop-element.invariant.1, c.loop-element-test.false) in
-    rw (← c.loop-element.invariant.0, over_full _ _ _ h)
