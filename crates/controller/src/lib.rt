@@ -15,8 +15,9 @@ ghost use Rattle.controller.specs.Seen.{same_seen};
 
 use rules::Parts;
 
-// No value, and no timer: above every number of the coding. It stays a number, and no Option: other crates read the
-// state's fields, and the theorem `same_is_equal` speaks of them.
+// No value, and no timer: above every number of the coding. It stays a number, and no Option: the promises of
+// `compares`, `value_at` and `act` hold of every u32, where an Option would ask more of callers, and values lie in
+// arrays of u32 that callers lend.
 pub const NONE: u32 = 65536;
 
 // How many variables and how many processes a controller has room for.
@@ -92,10 +93,11 @@ pub struct Acted {
 }
 
 // The value of variable x; none where there is no such variable.
+#[tactic(auto, unfolding(crate::specs::State::value_at))]
 pub fn value_at(variables: &[u32], x: u16) -> u32
     ensures { result ≡ value_at variables.now x }
 {
-    variables.get(x as usize).copied().unwrap_or(NONE)
+    variables.get(usize::from(x)).copied().unwrap_or(NONE)
 }
 
 // An element stored at a place of a list, if the list has such a place. std's `get_mut` says what it lends, and not
@@ -112,7 +114,7 @@ pub fn put<T: Copy>(list: &mut [T], at: usize, x: T)
 fn slot(i: u16) -> usize
     ensures { result ≡ i - 1 }
 {
-    (i as usize).saturating_sub(1)
+    usize::from(i).saturating_sub(1)
 }
 
 // The action that the numbers op, x and y code. They are numbers since its promise is on any three, also on such as
@@ -138,6 +140,7 @@ pub fn action_of(op: u16, x: u16, y: u16) -> Action
 }
 
 // The state before the first read.
+#[tactic(auto, unfolding(crate::specs::State::start))]
 pub fn at_start() -> Controller
     ensures { result ≡ start most_processes }
 {
@@ -152,6 +155,7 @@ pub fn at_start() -> Controller
 
 impl Controller {
     // The record of process i, from 1; 0 is taken for 1; stopped past the last.
+    #[tactic(auto, unfolding(crate::specs::State::record_at))]
     pub fn process(self, i: u16) -> Process
         ensures { result ≡ record_at self.processes i }
     {
@@ -162,6 +166,7 @@ impl Controller {
     }
 
     // The state with a record for process i.
+    #[tactic(auto, unfolding(crate::specs::State::with_record))]
     fn with_process(self, i: u16, p: Process) -> Controller
         ensures { result ≡ record self { processes = with_record self.processes i p } }
     {
@@ -171,6 +176,7 @@ impl Controller {
     }
 
     // One action of process i; `next` is where its body goes on.
+    #[tactic(auto, unfolding(crate::specs::Rules::act_of))]
     pub fn act(self, i: u16, action: Action, next: u16) -> Acted
         ensures { result ≡ act_of i action next self }
     {

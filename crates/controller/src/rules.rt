@@ -1,13 +1,14 @@
 // The rules of the actions, over values.
 ghost use Rattle.std.specs.Prelude.{◌≡◌, set};
 ghost use Rattle.controller.specs.State.{up, goes, timed, entering, stopped, raised};
-ghost use Rattle.controller.specs.Rules.{stays, new_value, updated, waited, restarted, rule_of};
+ghost use Rattle.controller.specs.Rules.{stays, passes, new_value, updated, waited, restarted, rule_of};
 ghost use Rattle.controller.specs.Rules.{named_by, counter_after};
 
 use crate::Outcome::{NoRule, Passes, Stays};
 use crate::{Action, Done, NONE, Outcome, Process, Update, VARIABLES, put, value_at};
 
 // One more, staying at the highest number of 16 bits.
+#[tactic(auto, unfolding(crate::specs::State::up))]
 fn up(n: u16) -> u16
     ensures { result ≡ up n }
 {
@@ -16,6 +17,7 @@ fn up(n: u16) -> u16
 
 impl Process {
     // A process that enters a state at an action, without a timer.
+    #[tactic(auto, unfolding(crate::specs::State::entering))]
     pub(crate) fn entering(state: u16, action: u16) -> Process
         ensures { result ≡ entering state action }
     {
@@ -34,6 +36,7 @@ impl Process {
     }
 
     // The process at action k of its state.
+    #[tactic(auto, unfolding(crate::specs::State::goes))]
     fn goes(self, k: u16) -> Process
         ensures { result ≡ goes self k }
     {
@@ -41,6 +44,7 @@ impl Process {
     }
 
     // The process with its timer at t.
+    #[tactic(auto, unfolding(crate::specs::State::timed))]
     fn timed(self, t: u32) -> Process
         ensures { result ≡ timed self t }
     {
@@ -49,14 +53,15 @@ impl Process {
 
     // The process after a read: its timer up by 1 if it runs, staying at the highest number of 16 bits. No timer is a
     // number above that, and stays.
+    #[tactic(auto, unfolding(crate::specs::State::raised, crate::specs::State::up, crate::specs::State::timed))]
     pub(crate) fn raised(self) -> Process
         ensures { result ≡ raised self }
     {
-        let t = self.timer;
-        if t < 65535 {
-            return self.timed(t + 1);
+        if self.timer < 65535 {
+            self.timed(self.timer + 1)
+        } else {
+            self
         }
-        self
     }
 }
 
@@ -75,14 +80,15 @@ impl Parts {
         ensures { result ≡ new_value self.variables x update }
     {
         match update {
-            Update::Constant(d) => d as u32,
+            Update::Constant(d) => u32::from(d),
             Update::Copy(y) => value_at(&self.variables, y),
             Update::Add(d) => {
                 let old = value_at(&self.variables, x);
                 if old == NONE {
-                    return NONE;
+                    NONE
+                } else {
+                    (old % 65536 + u32::from(d)) % 65536
                 }
-                (old % 65536 + d as u32) % 65536
             }
         }
     }
@@ -92,7 +98,7 @@ impl Parts {
         ensures { result ≡ record self { variables = set self.variables x value } }
     {
         let mut variables = self.variables;
-        put(&mut variables, x as usize, value);
+        put(&mut variables, usize::from(x), value);
         Parts { variables, ..self }
     }
 
@@ -125,6 +131,7 @@ impl Parts {
     }
 
     // Variable x takes its new value, and the body goes on at k.
+    #[tactic(auto, unfolding(crate::specs::Rules::updated))]
     fn updated(self, x: u16, update: Update, k: u16) -> Done
         ensures { result ≡ updated x update k self.variables self.own self.other }
     {
@@ -134,31 +141,41 @@ impl Parts {
             .done(Stays)
     }
 
+    // The timer starts, and the turn passes on.
+    fn starts_timer(self) -> Done
+        ensures { result ≡ passes self.variables (timed (goes self.own 1) 0) self.other }
+    {
+        self.with_own(self.own.goes(1).timed(0)).done(Passes)
+    }
+
     // tout: the timer is started, waited for, or has elapsed.
+    #[tactic(auto, unfolding(crate::specs::Rules::waited, crate::specs::Rules::elapsed))]
     fn waited(self, bound: u16, k: u16) -> Done
         ensures { result ≡ waited bound k self.variables self.own self.other }
     {
         let t = self.own.timer;
+        let bound = u32::from(bound);
         if t == NONE {
-            return self.with_own(self.own.goes(1).timed(0)).done(Passes);
+            self.starts_timer()
+        } else if t < bound {
+            self.with_own(self.own.goes(1)).done(Passes)
+        } else if t == bound {
+            self.with_own(self.own.goes(k).timed(NONE)).done(Stays)
+        } else {
+            self.done(NoRule)
         }
-        if t < bound as u32 {
-            return self.with_own(self.own.goes(1)).done(Passes);
-        }
-        if t == bound as u32 {
-            return self.with_own(self.own.goes(k).timed(NONE)).done(Stays);
-        }
-        self.done(NoRule)
     }
 
     // reset: the timer, if it runs, is started anew.
+    #[tactic(auto, unfolding(crate::specs::Rules::restarted))]
     fn restarted(self) -> Done
         ensures { result ≡ restarted self.variables self.own self.other }
     {
         if self.own.timer == NONE {
-            return self.done(NoRule);
+            self.done(NoRule)
+        } else {
+            self.starts_timer()
         }
-        self.with_own(self.own.goes(1).timed(0)).done(Passes)
     }
 
     // set, start and next: the process enters state f at its first action, and keeps the turn.

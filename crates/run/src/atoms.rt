@@ -3,7 +3,7 @@
 ghost use Rattle.std.specs.Prelude.{◌≡◌, ◌≤◌};
 ghost use Rattle.controller.specs.State.{states_of};
 ghost use Rattle.scan.specs.Position.{packed, atom_bytes};
-ghost use Rattle.run.specs.Working.Atoms.{process_place, looks_at, equals, LaysOut, LaidOut, SeesValues, Sees, laid_atom};
+ghost use Rattle.run.specs.Working.Atoms.{no_value, process_place, looks_at, equals, LaysOut, LaidOut, SeesValues, Sees, laid_atom};
 
 use crate::course::Course;
 use crate::laid::{Laid, SEEN};
@@ -24,47 +24,54 @@ const NO_VALUE_PLACE: u8 = 40;
 const STOP_PLACE: u8 = 41;
 
 // Where a test of process i looks: it is counted from 1, and 0 is taken for 1.
+#[tactic(auto, unfolding(crate::specs::Working::Atoms::process_place))]
 fn process_place(i: u16) -> u8
     ensures { result ≡ process_place i }
 {
     if PROCESSES < i {
-        return STOP_PLACE;
+        STOP_PLACE
+    } else {
+        VARIABLES as u8 + i.saturating_sub(1) as u8
     }
-    VARIABLES as u8 + i.saturating_sub(1) as u8
 }
 
 // Where a test looks.
+#[tactic(auto, unfolding(crate::specs::Working::Atoms::looks_at))]
 fn looks_at(test: TestRow) -> u8
     ensures { result ≡ looks_at test }
 {
     if test.kind == 2 {
-        return process_place(test.a);
+        process_place(test.a)
+    } else if usize::from(test.a) < VARIABLES {
+        test.a as u8
+    } else {
+        NO_VALUE_PLACE
     }
-    if (test.a as usize) < VARIABLES {
-        return test.a as u8;
-    }
-    NO_VALUE_PLACE
 }
 
 // Whether a test asks for an equal number: kinds 0 and 2.
+#[tactic(auto, unfolding(crate::specs::Working::Atoms::equals))]
 fn equals(test: TestRow) -> bool
     ensures { result ≡ equals test }
 {
-    test.kind == 0 || test.kind == 2
+    matches!(test.kind, 0 | 2)
 }
 
-// Test k of a table, laid out. An atom without a test looks where no value is, so it never holds.
-fn lay_out_test(table: &[u16], k: u16) -> Laid
-    ensures { LaysOut table.now k result }
+// A test, laid out.
+fn laid_test(test: TestRow) -> Laid
+    ensures { (result.place ≡ looks_at test) × ((result.number ≡ test.b) × (result.equal ≡ equals test)) }
 {
-    if k < lookups::tests(table) {
-        let test = lookups::test(table, k);
-        return Laid {
-            place: looks_at(test),
-            number: test.b,
-            equal: equals(test),
-        };
+    Laid {
+        place: looks_at(test),
+        number: test.b,
+        equal: equals(test),
     }
+}
+
+// What is laid out where there is no test: it looks where no value is, so it never holds.
+fn no_test() -> Laid
+    ensures { result.place ≡ no_value }
+{
     Laid {
         place: NO_VALUE_PLACE,
         number: 0,
@@ -72,16 +79,22 @@ fn lay_out_test(table: &[u16], k: u16) -> Laid
     }
 }
 
+// Test k of a table, laid out.
+fn lay_out_test(table: &[u16], k: u16) -> Laid
+    ensures { LaysOut table.now k result }
+{
+    if k < lookups::tests(table) {
+        laid_test(lookups::test(table, k))
+    } else {
+        no_test()
+    }
+}
+
 // The tests of a table, laid out.
 pub fn lay_out(table: &[u16]) -> [Laid; TESTS]
     ensures { LaidOut table.now result }
 {
-    let none = Laid {
-        place: NO_VALUE_PLACE,
-        number: 0,
-        equal: false,
-    };
-    let mut laid = [none; TESTS];
+    let mut laid = [no_test(); TESTS];
     for (k, test) in laid.iter_mut().enumerate() {
         *test = lay_out_test(table, k as u16);
     }
@@ -104,10 +117,10 @@ fn see(c: Controller, seen: &mut [u32; SEEN])
 {
     see_values(c.variables, seen);
     for (i, state) in c.states().iter().enumerate() {
-        seen[VARIABLES + i] = *state as u32;
+        seen[VARIABLES + i] = u32::from(*state);
     }
-    seen[NO_VALUE_PLACE as usize] = controller::NONE;
-    seen[STOP_PLACE as usize] = 0;
+    seen[usize::from(NO_VALUE_PLACE)] = controller::NONE;
+    seen[usize::from(STOP_PLACE)] = 0;
 }
 
 // The byte of the eight atoms from atom `from` on, the first the lowest digit.
@@ -117,7 +130,7 @@ fn atom_byte(laid: &[Laid; TESTS], seen: &[u32; SEEN], from: usize) -> u8
 {
     let mut byte: u8 = 0;
     for k in (from..from + 8).rev() {
-        byte = byte * 2 + laid[k].holds(seen) as u8;
+        byte = byte * 2 + u8::from(laid[k].holds(seen));
     }
     byte
 }
@@ -142,8 +155,9 @@ impl Course<'_> {
         ensures { result ≡ atom_bytes self.now.table.now new.variables (states_of new.processes) }
     {
         if old.seen_as(new) {
-            return atoms;
+            atoms
+        } else {
+            self.atoms_of(new)
         }
-        self.atoms_of(new)
     }
 }

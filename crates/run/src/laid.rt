@@ -18,9 +18,11 @@ impl Laid {
     ghost use Rattle.run.specs.Working.Atoms.{asked};
 
     // Whether the test holds of what is seen.
+    #[tactic(auto, unfolding(crate::specs::Working::Atoms::asked))]
     pub fn holds(self, seen: &[u32; SEEN]) -> bool
         ensures { result ≡ asked self seen.now }
     {
-        controller::tests::compares(self.equal, self.number as u32, seen[self.place as usize])
+        let value = seen[usize::from(self.place)];
+        controller::tests::compares(self.equal, u32::from(self.number), value)
     }
 }

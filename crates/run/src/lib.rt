@@ -82,7 +82,7 @@ impl Stop {
         ensures { result ≡ stop_told self }
     {
         match self {
-            Stop::Halted(cause, scan, _) => cause.at(scan as usize),
+            Stop::Halted(cause, scan, _) => cause.at(usize::from(scan)),
             Stop::Refused(why) => why,
         }
     }

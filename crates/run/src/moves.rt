@@ -13,6 +13,7 @@ use requirement::Phase;
 const LONGEST_TURN: u16 = 64;
 
 // Whether a functional state is active.
+#[tactic(auto, unfolding(crate::specs::Moves::active))]
 fn active(f: u16) -> bool
     ensures { result ≡ active f }
 {
@@ -32,13 +33,11 @@ fn used_after(outcome: Outcome, used: u16) -> u16
 }
 
 // Whether a turn of so many actions is at its end.
+#[tactic(auto, unfolding(crate::specs::Moves::too_long))]
 fn too_long(used: u16) -> Option<Cause>
     ensures { result ≡ too_long used }
 {
-    if used < LONGEST_TURN {
-        return None;
-    }
-    Some(Cause::LongTurn)
+    (LONGEST_TURN <= used).then_some(Cause::LongTurn)
 }
 
 // Whether there is no rule for an action.
@@ -58,17 +57,17 @@ impl Course<'_> {
     {
         let p = c.process(i);
         let f = p.state;
-        if !active(f) {
-            return c.act(i, Action::Skip, 0);
-        }
         let a = p.action;
-        if a == 0 {
-            return c.act(i, Action::End, 0);
+        if !active(f) {
+            c.act(i, Action::Skip, 0)
+        } else if a == 0 {
+            c.act(i, Action::End, 0)
+        } else {
+            let state = self.place_of(i, f);
+            let row = lookups::action_from(self.table, state, a);
+            let next = scan::next_of(self.table, c, row);
+            c.act(i, controller::action_of(row.op, row.x, row.y), next)
         }
-        let state = self.place_of(i, f);
-        let row = lookups::action_from(self.table, state, a);
-        let next = scan::next_of(self.table, c, row);
-        c.act(i, controller::action_of(row.op, row.x, row.y), next)
     }
 
     // An action of the process whose turn it is. A turn that is too long is looked for before an action that has no
@@ -101,6 +100,7 @@ impl Course<'_> {
     }
 
     // The move that the counter tells.
+    #[tactic(auto, unfolding(crate::specs::Moves::move_of))]
     pub fn make_move(&self, m: Machine) -> Moved
         requires { m.scan < 65535 }
         ensures { result ≡ recorded_move self.now.table.now self.now.inputs.now m }
@@ -113,23 +113,23 @@ impl Course<'_> {
                 used: 0,
                 ..m
             };
-            return Moved {
+            Moved {
                 stopped: None,
                 machine,
-            };
-        }
-        if lookups::processes(self.table) < c.counter {
+            }
+        } else if lookups::processes(self.table) < c.counter {
             let machine = Machine {
                 phase: Phase::Output,
                 state: scan::write(self.table, c),
                 used: 0,
                 scan: m.scan + 1,
             };
-            return Moved {
+            Moved {
                 stopped: None,
                 machine,
-            };
+            }
+        } else {
+            self.action_move(m)
         }
-        self.action_move(m)
     }
 }

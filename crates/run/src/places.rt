@@ -27,10 +27,11 @@ impl Course<'_> {
         ensures { result ≡ state_place self.now.table.now p s }
     {
         if (1..=8).contains(&p) && (1..=8).contains(&s) {
-            let row = p as usize - 1;
-            let column = s as usize - 1;
-            return self.places[row * 8 + column];
+            let row = usize::from(p) - 1;
+            let column = usize::from(s) - 1;
+            self.places[row * 8 + column]
+        } else {
+            lookups::state_at(self.table, p, s)
         }
-        lookups::state_at(self.table, p, s)
     }
 }

@@ -97,12 +97,13 @@ fn close(q: u16, back: Reached, last: Reached) -> Result<Closed, Stop>
     ensures { result ≡ closing q back last }
 {
     if last.machine.state.same_as(back.machine.state) {
-        return Ok(Closed {
+        Ok(Closed {
             positions: last.number,
             start: back.number,
-        });
+        })
+    } else {
+        Err(Stop::Halted(Cause::NotClosed, q, 0))
     }
-    Err(Stop::Halted(Cause::NotClosed, q, 0))
 }
 
 // The whole run. Where it closes, its trace stands in the buffer; behind that, and where it does not close, the buffer is yet to be cleared.

@@ -15,35 +15,37 @@ use requirement::Phase;
 
 // Whether a test is true of a state. A test of a process sees no variable, and one of a variable no process: only what
 // it sees is fetched.
+#[tactic(auto, unfolding(controller::specs::Tests::truth))]
 fn test_holds(test: TestRow, c: Controller) -> bool
     ensures { result ≡ truth test.kind test.b (value_at c.variables test.a) (state_at (states_of c.processes) test.a) }
 {
     if test.kind == 2 {
         let state = c.process(test.a).state;
-        return controller::tests::holds(test.kind, test.b, controller::NONE, state);
+        controller::tests::holds(test.kind, test.b, controller::NONE, state)
+    } else {
+        let value = controller::value_at(&c.variables, test.a);
+        controller::tests::holds(test.kind, test.b, value, 0)
     }
-    let value = controller::value_at(&c.variables, test.a);
-    controller::tests::holds(test.kind, test.b, value, 0)
 }
 
 // Whether a guard is true: guard 0 always, guard k + 1 with test k.
+#[tactic(auto, unfolding(crate::specs::Guards::guard_holds, crate::specs::Guards::test_holds))]
 fn guard_holds(table: &[u16], c: Controller, guard: u16) -> bool
     ensures { result ≡ guard_holds table.now c guard }
 {
-    if guard == 0 {
-        return true;
-    }
-    test_holds(lookups::test(table, guard - 1), c)
+    guard == 0 || test_holds(lookups::test(table, guard - 1), c)
 }
 
 // Where an action's body goes on, its guard tested on this state.
+#[tactic(auto, unfolding(crate::specs::Guards::next_of))]
 pub fn next_of(table: &[u16], c: Controller, row: ActionRow) -> u16
     ensures { result ≡ next_of table.now c row }
 {
     if guard_holds(table, c, row.guard) {
-        return row.next_if;
+        row.next_if
+    } else {
+        row.next_else
     }
-    row.next_else
 }
 
 // The state after the read of a scan, where so many scans are done before it.
@@ -53,8 +55,8 @@ pub fn read(table: &[u16], inputs: &[u16], done: u16, c: Controller) -> Controll
     let n = lookups::inputs(table);
     let mut state = c.raise_timers().with_counter(1);
     for k in 0..n {
-        let value = lookups::reading(inputs, n, done, k) as u32;
-        controller::put(&mut state.variables, k as usize, value);
+        let value = u32::from(lookups::reading(inputs, n, done, k));
+        controller::put(&mut state.variables, usize::from(k), value);
     }
     state
 }
@@ -63,13 +65,13 @@ pub fn read(table: &[u16], inputs: &[u16], done: u16, c: Controller) -> Controll
 pub fn write(table: &[u16], c: Controller) -> Controller
     ensures { result ≡ write_of table.now c }
 {
-    let first = lookups::inputs(table) as usize + lookups::internals(table) as usize;
+    let first = usize::from(lookups::inputs(table)) + usize::from(lookups::internals(table));
     let n = lookups::outputs(table);
     let mut state = c.with_counter(0);
     for k in 0..n {
         let source = lookups::source(table, k);
         let value = controller::value_at(&state.variables, source);
-        controller::put(&mut state.variables, first + k as usize, value);
+        controller::put(&mut state.variables, first + usize::from(k), value);
     }
     state
 }

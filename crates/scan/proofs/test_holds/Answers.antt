@@ -1,5 +1,5 @@
 use mathlib.Core.Path.{refl}
-use borrow.Author.Tests.{eq-eqb, ne_eqb}
+use borrow.Author.Tests.{eq-eqb}
 use lib.ListN.{get_or-map}
 use Rattle.controller.specs.State.{stopped, entering, state_at, states_of, record_at}
 use Rattle.controller.specs.Tests.{truth}
@@ -15,7 +15,3 @@ returns-then-test-eq2 c =
       c.process-state.ensures,
       get_or-map (λ (p : Process). p.state) c.args.c.processes _ stopped,
     ) refl
-
-pub returns : goal.returns
-unfolding truth
-returns c = rw (c.holds-2.ensures, c.value_at-value.ensures, ne_eqb _ _ c.if-test-eq2.false) refl

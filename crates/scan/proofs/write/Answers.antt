@@ -10,7 +10,16 @@ loop-k-init c = rw sub-zero refl
 pub loop-k-preserved : goal.loop-k-preserved
 loop-k-preserved c =
     written_again _ _ _ _ _ c.loop-k-test.true
-    (rw (c.put.ensures, c.value_at-value.ensures, c.source-source.ensures, c.internals.ensures, c.inputs.ensures) refl)
+    (rw (
+      c.put.ensures,
+      c.from-in-loop-k.ensures,
+      c.value_at-value.ensures,
+      c.source-source.ensures,
+      c.from-2.ensures,
+      c.from.ensures,
+      c.internals.ensures,
+      c.inputs.ensures,
+    ) refl)
     c.loop-k.invariant
 
 pub returns : goal.returns

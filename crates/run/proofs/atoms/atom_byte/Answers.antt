@@ -24,7 +24,7 @@ overflow_add-byte c =
 pub loop-k-preserved : goal.loop-k-preserved
 loop-k-preserved c =
     let at = get_or_default c.args.laid.now (c.loop-k.k - 1) c.index-laid-k.result missing (omega (arith, c.requires)) in (
-      rw (c.loop-k.invariant.0, truth_digit, c.holds.ensures, at)
+      rw (c.loop-k.invariant.0, c.from.ensures, truth_digit, c.holds.ensures, at)
           (byte_next (laid_atom c.args.laid.now c.args.seen.now) c.args.from c.loop-k.k (c.loop-k.k - 1) (omega arith) (omega arith) (omega arith)),
       omega arith,
     )

@@ -14,9 +14,9 @@ returns-then-a-eq0 c =
     (ends _ _ _ _ _ c.process-p.ensures c.active.ensures c.if-not-active.false
     c.if-a-eq0.true)
 
-pub returns : goal.returns
-returns c =
-    c.act-2.ensures
+pub returns-else-a-eq0 : goal.returns-else-a-eq0
+returns-else-a-eq0 c =
+    c.act-else-a-eq0.ensures
     ∙ sym
     (acts _ _ _ _ _ c.process-p.ensures c.active.ensures c.if-not-active.false c.if-a-eq0.false _
     c.place_of-state.ensures _ c.action_from-row.ensures _ c.next_of-next.ensures _
