@@ -2,10 +2,14 @@
 -- Each is said of the function's own promise, `Post`.
 -- Assumes nothing.
 use Prim.Native.Nat.{ℕ}
-use mathlib.Core.Path.{◌≡◌}
+use mathlib.Core.Path.{◌≡◌, sym, ◌∙◌}
 use contract.Lifetimes.{Lfts}
 use borrow.Fn.Kinds.{Dens, ended_of}
 use denote.Triple.Clauses.{AtExit}
+use denote.RattleType.{RattleType}
+use denote.Param.Laws.{Laws, IsCopy}
+use mir.Syntax.{Dict}
+use Rattle.std.specs.declared.clone.Clone.{Ghosts}
 use Rattle.coding.specs.declared.Refusal.{Refusal}
 use Rattle.coding.specs.Refusal.{NumberRead, Answer}
 use Rattle.coding.specs.Block.{BlockAt}
@@ -16,6 +20,8 @@ use Rattle.coding.proofs.read_number.Kinds as read_number
 use Rattle.coding.proofs.read_number.Reads as read_number_reads
 use Rattle.coding.proofs.block_at.Kinds as block_at
 use Rattle.coding.proofs.block_at.Reads as block_at_reads
+use Rattle.coding.proofs.set_at.Kinds as set_at
+use Rattle.coding.proofs.set_at.Reads as set_at_reads
 use Rattle.coding.proofs.size_of.Kinds as size_of
 use Rattle.coding.proofs.size_of.Reads as size_of_reads
 use Rattle.coding.proofs.write_number.Kinds as write_number
@@ -103,3 +109,8 @@ module _ (κs : Lfts 2) where
   pub write_checked_unique : (r t : Answer) (a : Dens κs write_checked.ps) (e f : AtExit (ended_of 2 write_checked.ps write_checked.r) κs) →
       write_checked_reads.Post κs a r e → write_checked_reads.Post κs a t f → (r ≡ t) × (e.1.1.0.now ≡ f.1.1.0.now)
   write_checked_unique r t a e f = one_storing _ _
+
+module _ (T : RattleType) (L : Laws T) (C : IsCopy T) (K : Ghosts T.Denot) (D : Dict) (κs : Lfts 2) where
+  pub set_at_unique : (r t : Unit {0}) (a : Dens κs (set_at.ps T L C)) (e f : AtExit (ended_of 2 (set_at.ps T L C) (set_at.r T L C)) κs) →
+      set_at_reads.Post T L C K D κs a r e → set_at_reads.Post T L C K D κs a t f → e.0.now ≡ f.0.now
+  set_at_unique r t a e f p q = p ∙ sym q

@@ -3,7 +3,7 @@
 
 mod source;
 
-ghost use Rattle.std.specs.Prelude.{◌≡◌, ◌+◌, ◌≤◌, length};
+ghost use Rattle.std.specs.Prelude.{◌≡◌, ◌+◌, ◌≤◌, length, set};
 ghost use Rattle.coding.specs.Refusal.{number_of};
 ghost use Rattle.coding.specs.Number.{number_at, bytes_of};
 ghost use Rattle.coding.specs.Code.{code_at, values, bytes_of_all};
@@ -92,6 +92,16 @@ pub fn number_of(cause: Cause) -> u8
         Cause::BadTrace => 9,
         Cause::ShortBuffer => 10,
         Cause::NameAbsent => 11,
+    }
+}
+
+// An element stored at a place of a list, if the list has such a place. std's `get_mut` says what it lends, and not
+// what the list is after a store to that.
+pub fn set_at<T: Copy>(list: &mut [T], at: usize, x: T)
+    ensures { list.new ≡ set list.old at x }
+{
+    if at < list.len() {
+        list[at] = x;
     }
 }
 

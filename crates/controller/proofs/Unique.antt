@@ -7,10 +7,6 @@ use mathlib.Core.List.{List}
 use contract.Lifetimes.{Lfts}
 use borrow.Fn.Kinds.{Dens, ended_of}
 use denote.Triple.Clauses.{AtExit}
-use denote.RattleType.{RattleType}
-use denote.Param.Laws.{Laws, IsCopy}
-use mir.Syntax.{Dict}
-use Rattle.std.specs.declared.clone.Clone.{Ghosts}
 use Rattle.controller.specs.declared.Process.{Process}
 use Rattle.controller.specs.declared.Controller.{Controller}
 use Rattle.controller.specs.declared.Action.{Action}
@@ -35,8 +31,6 @@ use Rattle.controller.proofs.action_of.Kinds as action_of
 use Rattle.controller.proofs.action_of.Reads as action_of_reads
 use Rattle.controller.proofs.value_at.Kinds as value_at
 use Rattle.controller.proofs.value_at.Reads as value_at_reads
-use Rattle.controller.proofs.put.Kinds as put
-use Rattle.controller.proofs.put.Reads as put_reads
 use Rattle.controller.proofs.tests.compares.Kinds as compares
 use Rattle.controller.proofs.tests.holds.Kinds as holds
 use Rattle.controller.proofs.tests.compares.Reads as compares_reads
@@ -90,8 +84,3 @@ module _ (κs : Lfts 0) where
 pub value_at_unique : (κs : Lfts 1) (r t : ℕ) (a : Dens κs value_at.ps) (e f : AtExit (ended_of 1 value_at.ps value_at.r) κs) →
     value_at_reads.Post κs a r e → value_at_reads.Post κs a t f → r ≡ t
 value_at_unique κs r t a e f p q = p ∙ sym q
-
-module _ (T : RattleType) (L : Laws T) (C : IsCopy T) (K : Ghosts T.Denot) (D : Dict) (κs : Lfts 2) where
-  pub put_unique : (r t : Unit {0}) (a : Dens κs (put.ps T L C)) (e f : AtExit (ended_of 2 (put.ps T L C) (put.r T L C)) κs) →
-      put_reads.Post T L C K D κs a r e → put_reads.Post T L C K D κs a t f → e.0.now ≡ f.0.now
-  put_unique r t a e f p q = p ∙ sym q

@@ -100,16 +100,6 @@ pub fn value_at(variables: &[u32], x: u16) -> u32
     variables.get(usize::from(x)).copied().unwrap_or(NONE)
 }
 
-// An element stored at a place of a list, if the list has such a place. std's `get_mut` says what it lends, and not
-// what the list is after a store to that.
-pub fn put<T: Copy>(list: &mut [T], at: usize, x: T)
-    ensures { list.new ≡ set list.old at x }
-{
-    if at < list.len() {
-        list[at] = x;
-    }
-}
-
 // The place of process i, which is counted from 1.
 fn slot(i: u16) -> usize
     ensures { result ≡ i - 1 }
@@ -171,7 +161,7 @@ impl Controller {
         ensures { result ≡ record self { processes = with_record self.processes i p } }
     {
         let mut c = self;
-        put(&mut c.processes, slot(i), p);
+        coding::set_at(&mut c.processes, slot(i), p);
         c
     }
 

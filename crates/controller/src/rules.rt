@@ -5,7 +5,7 @@ ghost use Rattle.controller.specs.Rules.{stays, passes, new_value, updated, wait
 ghost use Rattle.controller.specs.Rules.{named_by, counter_after};
 
 use crate::Outcome::{NoRule, Passes, Stays};
-use crate::{Action, Done, NONE, Outcome, Process, Update, VARIABLES, put, value_at};
+use crate::{Action, Done, NONE, Outcome, Process, Update, VARIABLES, value_at};
 
 // One more, staying at the highest number of 16 bits.
 #[tactic(auto, unfolding(crate::specs::State::up))]
@@ -98,7 +98,7 @@ impl Parts {
         ensures { result ≡ record self { variables = set self.variables x value } }
     {
         let mut variables = self.variables;
-        put(&mut variables, usize::from(x), value);
+        coding::set_at(&mut variables, usize::from(x), value);
         Parts { variables, ..self }
     }
 

@@ -56,7 +56,7 @@ pub fn read(table: &[u16], inputs: &[u16], done: u16, c: Controller) -> Controll
     let mut state = c.raise_timers().with_counter(1);
     for k in 0..n {
         let value = u32::from(lookups::reading(inputs, n, done, k));
-        controller::put(&mut state.variables, usize::from(k), value);
+        coding::set_at(&mut state.variables, usize::from(k), value);
     }
     state
 }
@@ -71,7 +71,7 @@ pub fn write(table: &[u16], c: Controller) -> Controller
     for k in 0..n {
         let source = lookups::source(table, k);
         let value = controller::value_at(&state.variables, source);
-        controller::put(&mut state.variables, first + usize::from(k), value);
+        coding::set_at(&mut state.variables, first + usize::from(k), value);
     }
     state
 }
@@ -91,6 +91,6 @@ pub fn put_position(phase: Phase, atoms: [u8; 4], at: usize, trace: &mut [u8])
         atoms[3],
     ];
     for (k, byte) in bytes.iter().enumerate() {
-        controller::put(trace, at + k, *byte);
+        coding::set_at(trace, at + k, *byte);
     }
 }

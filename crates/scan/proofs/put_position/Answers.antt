@@ -14,7 +14,7 @@ loop-k-init c = rw add-zero refl
 
 pub loop-k-preserved : goal.loop-k-preserved
 loop-k-preserved c =
-    rw c.put.ensures (byte_over c.loop-k.trace _ c.args.at c.loop-k.k c.loop-k-test.true ∙ c.loop-k.invariant)
+    rw c.set_at.ensures (byte_over c.loop-k.trace _ c.args.at c.loop-k.k c.loop-k-test.true ∙ c.loop-k.invariant)
 
 pub returns : goal.returns
 returns c =

@@ -9,7 +9,7 @@ loop-k-init c = rw sub-zero refl
 
 pub loop-k-preserved : goal.loop-k-preserved
 loop-k-preserved c =
-    taken_again _ _ _ _ _ _ c.loop-k-test.true (rw (c.put.ensures, c.from.ensures, c.from-value.ensures, c.reading.ensures) refl) c.loop-k.invariant
+    taken_again _ _ _ _ _ _ c.loop-k-test.true (rw (c.set_at.ensures, c.from.ensures, c.from-value.ensures, c.reading.ensures) refl) c.loop-k.invariant
 
 pub returns : goal.returns
 unfolding read_of

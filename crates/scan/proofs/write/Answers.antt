@@ -11,7 +11,7 @@ pub loop-k-preserved : goal.loop-k-preserved
 loop-k-preserved c =
     written_again _ _ _ _ _ c.loop-k-test.true
     (rw (
-      c.put.ensures,
+      c.set_at.ensures,
       c.from-in-loop-k.ensures,
       c.value_at-value.ensures,
       c.source-source.ensures,
