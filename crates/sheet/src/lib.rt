@@ -25,12 +25,13 @@ struct Entry {
 }
 
 // The text whose length stands at `at`.
+#[tactic(auto, unfolding(crate::specs::Sheet::text_at), using(crate::proofs::Laws::texts))]
 fn text_at(sheet: &[u8], at: usize) -> Result<Span, Refusal>
     ensures { result ≡ text_at sheet.now at }
 {
     let length = coding::read_number(sheet, at)?;
     let begin = length.next;
-    let size = length.value as usize;
+    let size = usize::from(length.value);
     let left = sheet.len() - begin;
     if left < size {
         return Err(Cause::CutShort.at(at));
@@ -42,6 +43,7 @@ fn text_at(sheet: &[u8], at: usize) -> Result<Span, Refusal>
 }
 
 // The name whose length stands at `at`: the length is looked at before the text.
+#[tactic(auto, unfolding(crate::specs::Sheet::name_at))]
 fn name_at(sheet: &[u8], at: usize) -> Result<Span, Refusal>
     ensures { result ≡ name_at sheet.now at }
 {
@@ -53,6 +55,7 @@ fn name_at(sheet: &[u8], at: usize) -> Result<Span, Refusal>
 }
 
 // The entry whose name's length stands at `at`.
+#[tactic(auto, unfolding(crate::specs::Sheet::entry_at))]
 fn entry_at(sheet: &[u8], at: usize) -> Result<Entry, Refusal>
     ensures { result ≡ entry_at sheet.now at }
 {
@@ -62,6 +65,7 @@ fn entry_at(sheet: &[u8], at: usize) -> Result<Entry, Refusal>
 }
 
 // So many entries from `at` on and nothing after them, or the first fault.
+#[tactic(auto, using(crate::proofs::Laws::checks))]
 fn check_entries(sheet: &[u8], count: u16, at: usize) -> Answer
     ensures { result ≡ check_from sheet.now count count at }
 {
@@ -73,7 +77,7 @@ fn check_entries(sheet: &[u8], count: u16, at: usize) -> Answer
     if next < sheet.len() {
         return Err(Cause::LeftOver.at(next));
     }
-    Ok(count as usize)
+    Ok(usize::from(count))
 }
 
 // Whether two texts are the same.
@@ -92,6 +96,7 @@ fn is_named(sheet: &[u8], begin: usize, end: usize, name: &[u8]) -> bool
 }
 
 // The first of so many entries from `at` on that has the name.
+#[tactic(auto, using(crate::proofs::Laws::seeks))]
 fn seek(sheet: &[u8], name: &[u8], count: u16, at: usize) -> Result<Span, Refusal>
     ensures { result ≡ seek_from sheet.now name.now count at }
 {
@@ -107,6 +112,7 @@ fn seek(sheet: &[u8], name: &[u8], count: u16, at: usize) -> Result<Span, Refusa
 }
 
 // Where the body of a name stands. Every length of the sheet is checked before the name is sought.
+#[tactic(auto, unfolding(crate::specs::Sheet::find_in))]
 pub fn find(sheet: &[u8], name: &[u8]) -> Result<Span, Refusal>
     ensures { result ≡ find_in sheet.now name.now }
 {
@@ -119,6 +125,7 @@ pub fn find(sheet: &[u8], name: &[u8]) -> Result<Span, Refusal>
 }
 
 // The body of a name, as the very bytes of the sheet; nothing where the lookup refuses.
+#[tactic(auto, unfolding(crate::specs::Sheet::body_of, crate::specs::Sheet::start_of))]
 pub fn body<'a, 'b>(sheet: &'a [u8], name: &'b [u8]) -> &'a [u8]
     ensures bytes { result.now ≡ body_of sheet.now (find_in sheet.now name.now) }
     // the part lies in the sheet's own memory, so many bytes after its start
