@@ -32,3 +32,5 @@ module _ (s : List ℕ) (at : ℕ) where
 
     pub block_whole : n ≤ length s - begin → span_from begin (begin + n) ≡ block_at s at
     block_whole l = let b = begins_inside in rw (block_by_number, le-leb (begin + n) (length s) (omega arith))
+
+pub ruleset blocks = (block_cut, block_whole)

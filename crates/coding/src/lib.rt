@@ -151,12 +151,13 @@ pub fn read_number(code: &[u8], at: usize) -> Result<Number, Refusal>
 }
 
 // The block whose length stands at a place: so many bytes behind it.
+#[tactic(auto, unfolding(crate::specs::Block::block_at), using(crate::proofs::Blocks::blocks))]
 pub fn block_at(code: &[u8], at: usize) -> Result<Span, Refusal>
     ensures { result ≡ block_at code.now at }
 {
     let length = read_number(code, at)?;
     let begin = length.next;
-    let size = length.value as usize;
+    let size = usize::from(length.value);
     let left = code.len() - begin;
     if left < size {
         return Err(Cause::CutShort.at(at));

@@ -87,9 +87,7 @@ module _ (rule : ℕ → ℕ → Bool) (s : List ℕ) (start : ℕ) where
           steps_from rule s start (positions s) 0 (refused_at BadTrace start) ≡ check_by rule s start
       without_output e = rw (walked, e)
 
--- what the loops over the positions and the check itself go by
+-- what the loops over the positions go by
 pub ruleset steps = (steps_on, steps_stop, steps_end)
 
 pub ruleset outputs = (output_here, output_on, output_end)
-
-pub ruleset answers = (no_output, well_formed, wrong_start, wrong_length)

@@ -119,7 +119,7 @@ fn output_in_loop(trace: &[u8], start: usize) -> bool
 }
 
 // A trace and its loop start: how many positions, or refusal 9.
-#[tactic(auto, using(crate::proofs::Steps::answers))]
+#[tactic(auto, unfolding(crate::specs::Checking::check_by))]
 pub fn check(trace: &[u8], start: usize) -> Answer
     ensures { result ≡ check_trace trace.now start }
 {

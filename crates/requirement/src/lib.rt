@@ -94,6 +94,7 @@ pub struct Checked {
 }
 
 // What a tag asks for, if it is known.
+#[tactic(auto, unfolding(crate::specs::Tags::tag_of))]
 pub fn tag_of(v: u16) -> Option<Tag>
     ensures { result ≡ tag_of v }
 {
@@ -152,16 +153,19 @@ pub fn highest_tag(kind: Kind) -> u16
 }
 
 // What a tag asks for, where the kind has it.
+#[tactic(auto, unfolding(crate::specs::Limits::tag_in))]
 pub fn tag_in(kind: Kind, v: u16) -> Option<Tag>
     ensures { result ≡ tag_in kind v }
 {
     if highest_tag(kind) < v {
-        return None;
+        None
+    } else {
+        tag_of(v)
     }
-    tag_of(v)
 }
 
 // The node whose tag stands at `at`.
+#[tactic(auto, unfolding(crate::specs::Reading::node_at))]
 pub fn read_node(kind: Kind, code: &[u8], at: usize) -> Result<NodeRead, Refusal>
     ensures { result ≡ node_at kind code.now at }
 {
@@ -210,6 +214,7 @@ pub fn check<S: Source>(kind: Kind, source: S) -> Result<Checked, Refusal>
 }
 
 // Reads a requirement's bytes into numbers.
+#[tactic(auto, unfolding(crate::specs::Reading::grammar))]
 pub fn read(kind: Kind, code: &[u8], out: &mut [u16]) -> Answer
     ensures { (result ≡ read_by (grammar kind) code.now out.old)
         × (out.new ≡ stored result out.old (values (code_at code.now 0))) }
@@ -219,6 +224,7 @@ pub fn read(kind: Kind, code: &[u8], out: &mut [u16]) -> Answer
 }
 
 // Writes a requirement's numbers as bytes.
+#[tactic(auto, unfolding(crate::specs::Reading::grammar, coding::specs::Code::numbers_from), using(coding::proofs::Grammars::numbered_is))]
 pub fn write(kind: Kind, numbers: &[u16], buf: &mut [u8]) -> Answer
     ensures { (result ≡ write_by (grammar kind) numbers.now buf.old)
         × (buf.new ≡ stored result buf.old (bytes_of_all numbers.now)) }

@@ -82,12 +82,12 @@ module _ (s : List ℕ) (at : ℕ) where
 
 -- ---- the turns of `check_entries`
 module _ (s : List ℕ) (count : ℕ) where
-  check_end : (left at : ℕ) → left ≤ 0 → check_from s count left at ≡ pick (ltb at (length s)) (refused_at LeftOver at) (Ok count)
+  pub check_end : (left at : ℕ) → left ≤ 0 → check_from s count left at ≡ pick (ltb at (length s)) (refused_at LeftOver at) (Ok count)
   unfolding check_from
   check_end zero at h = refl
   check_end (suc left) at h = absurd (omega arith)
 
-  check_turn : (left at : ℕ) → 0 < left → check_from s count left at ≡ check_entry (λ next. check_from s count (left - 1) next) (entry_at s at)
+  pub check_turn : (left at : ℕ) → 0 < left → check_from s count left at ≡ check_entry (λ next. check_from s count (left - 1) next) (entry_at s at)
   unfolding check_from
   check_turn zero at h = absurd (omega arith)
   check_turn (suc left) at h = let one : suc left - 1 ≡ left = omega arith in rw one
@@ -113,7 +113,7 @@ module _ (s name : List ℕ) where
   seek_end zero at h = refl
   seek_end (suc left) at h = absurd (omega arith)
 
-  seek_turn : (left at : ℕ) → 0 < left → seek_from s name left at ≡ seek_entry s name (λ next. seek_from s name (left - 1) next) (entry_at s at)
+  pub seek_turn : (left at : ℕ) → 0 < left → seek_from s name left at ≡ seek_entry s name (λ next. seek_from s name (left - 1) next) (entry_at s at)
   unfolding seek_from
   seek_turn zero at h = absurd (omega arith)
   seek_turn (suc left) at h = let one : suc left - 1 ≡ left = omega arith in rw one
@@ -219,3 +219,10 @@ module _ (s : List ℕ) where
 
   pub inside : (at begin end body body_end : ℕ) → entry_from begin end body body_end ≡ entry_at s at → EntryInside s (entry_from begin end body body_end)
   inside at begin end body body_end q = rw (← q) at (entry_inside at)
+
+-- what the functions' proofs go by
+
+
+pub ruleset checks = (check_end, check_turn, check_over, check_done)
+
+pub ruleset seeks = (seek_end, seek_turn)

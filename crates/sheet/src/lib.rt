@@ -18,6 +18,7 @@ struct Entry {
 }
 
 // The name whose length stands at `at`: the length is looked at before the text.
+#[tactic(auto, unfolding(crate::specs::Sheet::name_at))]
 fn name_at(sheet: &[u8], at: usize) -> Result<Span, Refusal>
     ensures { result ≡ name_at sheet.now at }
 {
@@ -29,6 +30,7 @@ fn name_at(sheet: &[u8], at: usize) -> Result<Span, Refusal>
 }
 
 // The entry whose name's length stands at `at`.
+#[tactic(auto, unfolding(crate::specs::Sheet::entry_at))]
 fn entry_at(sheet: &[u8], at: usize) -> Result<Entry, Refusal>
     ensures { result ≡ entry_at sheet.now at }
 {
@@ -38,6 +40,7 @@ fn entry_at(sheet: &[u8], at: usize) -> Result<Entry, Refusal>
 }
 
 // So many entries from `at` on and nothing after them, or the first fault.
+#[tactic(auto, using(crate::proofs::Laws::checks))]
 fn check_entries(sheet: &[u8], count: u16, at: usize) -> Answer
     ensures { result ≡ check_from sheet.now count count at }
 {
@@ -49,7 +52,7 @@ fn check_entries(sheet: &[u8], count: u16, at: usize) -> Answer
     if next < sheet.len() {
         return Err(Cause::LeftOver.at(next));
     }
-    Ok(count as usize)
+    Ok(usize::from(count))
 }
 
 // Whether two texts are the same.
@@ -68,6 +71,7 @@ fn is_named(sheet: &[u8], text: Span, name: &[u8]) -> bool
 }
 
 // The first of so many entries from `at` on that has the name.
+#[tactic(auto, using(crate::proofs::Laws::seeks))]
 fn seek(sheet: &[u8], name: &[u8], count: u16, at: usize) -> Result<Span, Refusal>
     ensures { result ≡ seek_from sheet.now name.now count at }
 {
@@ -83,6 +87,7 @@ fn seek(sheet: &[u8], name: &[u8], count: u16, at: usize) -> Result<Span, Refusa
 }
 
 // Where the body of a name stands. Every length of the sheet is checked before the name is sought.
+#[tactic(auto, unfolding(crate::specs::Sheet::find_in))]
 pub fn find(sheet: &[u8], name: &[u8]) -> Result<Span, Refusal>
     ensures { result ≡ find_in sheet.now name.now }
 {
@@ -95,6 +100,7 @@ pub fn find(sheet: &[u8], name: &[u8]) -> Result<Span, Refusal>
 }
 
 // The body of a name, as the very bytes of the sheet; nothing where the lookup refuses.
+#[tactic(auto, unfolding(crate::specs::Sheet::body_of, crate::specs::Sheet::start_of))]
 pub fn body<'a, 'b>(sheet: &'a [u8], name: &'b [u8]) -> &'a [u8]
     ensures bytes { result.now ≡ body_of sheet.now (find_in sheet.now name.now) }
     // the part lies in the sheet's own memory, so many bytes after its start

@@ -4,7 +4,7 @@
 mod skips;
 mod tests;
 
-ghost use Rattle.std.specs.Prelude.{◌≡◌, set};
+ghost use Rattle.std.specs.Prelude.{◌≡◌};
 ghost use Rattle.coding.specs.Code.{code_at, values, bytes_of_all};
 ghost use Rattle.coding.specs.Room.{read_by, write_by, stored};
 ghost use Rattle.ranges.specs.Limits.{most_processes};
@@ -18,6 +18,7 @@ use ranges::{Step, Want};
 const COUNTS: usize = 65;
 
 // What a number that is wanted is to the second look at the tests.
+// An enum of its own: there are five cases, where Option and Result have two.
 #[derive(Clone, Copy)]
 enum Role {
     // how many processes there are
@@ -49,23 +50,14 @@ fn role_of(want: Want) -> Role
     }
 }
 
-// Keeps a number at a place, if there is such a place.
-fn keep(v: u16, i: usize, counts: &mut [u16])
-    ensures { counts.new ≡ set counts.old i v }
-{
-    if i < counts.len() {
-        counts[i] = v;
-    }
-}
-
 // Keeps a count of processes or of states.
 fn note(role: Role, v: u16, counts: &mut [u16])
     ensures { counts.new ≡ noted role v counts.old }
 {
     match role {
-        Role::ProcessCount => keep(v, 0, counts),
-        Role::StateCount(p) => keep(v, p as usize, counts),
-        _ => {}
+        Role::ProcessCount => coding::set_at(counts, 0, v),
+        Role::StateCount(p) => coding::set_at(counts, usize::from(p), v),
+        Role::OfTestA(_) | Role::OfTestB(_, _) | Role::Other => {}
     }
 }
 
@@ -77,6 +69,7 @@ fn look<S: Source>(most: u16, first: Want, source: S) -> Result<Seen, Refusal>
     let mut want = first;
     let mut at: usize = 0;
     let mut n: usize = 0;
+    // No `for`: how far a step goes shows only after it, so there is no index to range over.
     loop {
         let stand = skips::skip(want, source, at, n);
         want = stand.want;
@@ -102,16 +95,19 @@ fn look<S: Source>(most: u16, first: Want, source: S) -> Result<Seen, Refusal>
 }
 
 // So many numbers, if nothing is left over.
+#[tactic(auto, unfolding(crate::specs::Table::ended_at))]
 fn ended_at(n: usize, next: usize, size: usize) -> Answer
     ensures { result ≡ ended_at n next size }
 {
     if next < size {
-        return Err(Cause::LeftOver.at(next));
+        Err(Cause::LeftOver.at(next))
+    } else {
+        Ok(n)
     }
-    Ok(n)
 }
 
 // A table of at most `most` processes: how many numbers it has, or the first fault.
+#[tactic(auto, unfolding(crate::specs::Table::table_grammar))]
 fn check_table<S: Source>(most: u16, source: S) -> Answer
     ensures { result ≡ table_grammar most ((S.places source).code 0) }
 {
@@ -120,6 +116,7 @@ fn check_table<S: Source>(most: u16, source: S) -> Answer
 }
 
 // An inputs record of so many input variables.
+#[tactic(auto, unfolding(crate::specs::Table::inputs_grammar))]
 fn check_inputs<S: Source>(inputs: u16, source: S) -> Answer
     ensures { result ≡ inputs_grammar inputs ((S.places source).code 0) }
 {
@@ -139,6 +136,7 @@ pub fn read_table(code: &[u8], out: &mut [u16]) -> Answer
 }
 
 // Writes a table's numbers as bytes.
+#[tactic(auto, unfolding(coding::specs::Code::numbers_from))]
 pub fn write_table(numbers: &[u16], buf: &mut [u8]) -> Answer
     ensures { (result ≡ write_by (table_grammar most_processes) numbers.now buf.old)
         × (buf.new ≡ stored result buf.old (bytes_of_all numbers.now)) }
@@ -155,6 +153,7 @@ pub fn read_inputs(inputs: u16, code: &[u8], out: &mut [u16]) -> Answer
 }
 
 // Writes the numbers of an inputs record as bytes.
+#[tactic(auto, unfolding(coding::specs::Code::numbers_from))]
 pub fn write_inputs(inputs: u16, numbers: &[u16], buf: &mut [u8]) -> Answer
     ensures { (result ≡ write_by (inputs_grammar inputs) numbers.now buf.old)
         × (buf.new ≡ stored result buf.old (bytes_of_all numbers.now)) }

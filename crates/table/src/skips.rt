@@ -55,6 +55,7 @@ fn skip_actions<S: Source>(shape: Shape, spot: Spot, source: S, from: usize, beh
     let mut here = spot;
     let mut at = from;
     let mut count = behind;
+    // No `for`: the spot goes on within the stand, and stays where a fault ends the loop.
     while here.action < here.actions {
         let Some(next) = take_action(shape, here, source, at) else {
             break;
@@ -78,6 +79,7 @@ fn skip_readings<S: Source>(readings: usize, source: S, from: usize, behind: usi
     let mut left = readings;
     let mut at = from;
     let mut count = behind;
+    // No `for`: how many are left is part of the stand, and stays where a fault ends the loop.
     while 1 < left {
         let Ok(number) = source.number_at(at) else {
             break;

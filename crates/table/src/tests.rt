@@ -7,6 +7,7 @@ use coding::{Answer, Cause, Source};
 use ranges::{Step, Want};
 
 // What the second look says of a number: fine, wrong, or that all the tests are behind.
+// An enum of its own: there are three answers, where Option and Result have two.
 #[derive(Clone, Copy)]
 pub enum Ruling {
     Fine,
@@ -17,47 +18,31 @@ pub enum Ruling {
 fn fine_if(ok: bool) -> Ruling
     ensures { result ≡ fine_if ok }
 {
-    if ok {
-        return Ruling::Fine;
-    }
-    Ruling::Wrong
+    if ok { Ruling::Fine } else { Ruling::Wrong }
 }
 
 // Whether b is stop, err or one of so many active states.
+#[tactic(auto, unfolding(crate::specs::Table::state_ok))]
 fn state_ok(states: u16, b: u16) -> bool
     ensures { result ≡ state_ok states b }
 {
-    if b == ranges::ERR_STATE {
-        return true;
-    }
-    b <= states
+    b == ranges::ERR_STATE || b <= states
 }
 
 fn count_at(counts: &[u16], i: u16) -> u16
     ensures { result ≡ get_or counts.now i 0 }
 {
-    counts.get(i as usize).copied().unwrap_or(0)
+    counts.get(usize::from(i)).copied().unwrap_or(0)
 }
 
 fn test_says(counts: &[u16], role: Role, v: u16) -> Ruling
     ensures { result ≡ test_says counts.now role v }
 {
     match role {
-        Role::OfTestA(kind) => {
-            if kind == 2 {
-                return fine_if(ranges::allowed::between(1, v, count_at(counts, 0)));
-            }
-            Ruling::Fine
-        }
-        Role::OfTestB(kind, a) => {
-            if kind == 2 {
-                return fine_if(state_ok(count_at(counts, a), v));
-            }
-            Ruling::Fine
-        }
-        Role::ProcessCount => Ruling::Behind,
-        Role::StateCount(_) => Ruling::Behind,
-        Role::Other => Ruling::Fine,
+        Role::OfTestA(2) => fine_if(ranges::allowed::between(1, v, count_at(counts, 0))),
+        Role::OfTestB(2, a) => fine_if(state_ok(count_at(counts, a), v)),
+        Role::ProcessCount | Role::StateCount(_) => Ruling::Behind,
+        Role::OfTestA(_) | Role::OfTestB(_, _) | Role::Other => Ruling::Fine,
     }
 }
 
@@ -67,6 +52,7 @@ pub fn second_look<S: Source>(most: u16, counts: &[u16], accepted: usize, source
 {
     let mut want = Want::Inputs;
     let mut at: usize = 0;
+    // No `for`: where the next number stands shows only when this one is read, so there is no index to range over.
     while let Ok(number) = source.number_at(at) {
         match test_says(counts, crate::role_of(want), number.value) {
             Ruling::Wrong => {

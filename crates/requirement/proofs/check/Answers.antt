@@ -1,12 +1,11 @@
 use mathlib.Core.Path.{◌∙◌}
-use Rattle.std.proofs.lemmas.Result.{err_from_is_err_and}
+use Rattle.coding.proofs.Refusing.{handed_on}
 use Rattle.requirement.proofs.Parts.{whole_checked}
 use Rattle.requirement.proofs.check.Goals as goal
 
 pub returns-in_err-part : goal.returns-in_err-part
 returns-in_err-part g c =
-    let p = err_from_is_err_and c.from_residual.result c.from_residual.ensures.1 in
-    rw (p.1, p.2) (whole_checked _ _ _ _ c.depth_limit.ensures c.node_limit.ensures _ c.in_err-part.ensures)
+    handed_on _ _ c.from_residual.ensures.1 (whole_checked _ _ _ _ c.depth_limit.ensures c.node_limit.ensures _ c.in_err-part.ensures)
 
 pub returns : goal.returns
 returns g c =

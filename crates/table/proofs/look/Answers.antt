@@ -1,11 +1,7 @@
-use native.Mathlib.Omega.{arith}
 use mathlib.Core.Path.{sym, ◌∙◌}
 use Rattle.std.proofs.lemmas.Result.{err_from_is_err_and}
-use Rattle.table.proofs.FirstLook.{begins, skipped, stops, passes, refuses, finishes, goes_on}
+use Rattle.table.proofs.FirstLook.{skipped, stops, refuses, finishes, goes_on}
 use Rattle.table.proofs.look.Goals as goal
-
-pub loop-number-init : goal.loop-number-init
-loop-number-init g c = begins _ _ _
 
 pub returns-in_err-number : goal.returns-in_err-number
 returns-in_err-number g c =
@@ -20,12 +16,6 @@ returns-in-NotAllowed g c =
     let here = skipped c.loop-number.invariant c.skip-stand.ensures in
     rw c.at.ensures (refuses turns here _ _ c.in_ok-number.ensures (sym c.in-NotAllowed.is ∙ c.advance.ensures))
 
-pub overflow_add-n : goal.overflow_add-n
-overflow_add-n g c =
-    let turns = g.met.S.Source.turns c.args.source in
-    let here = skipped c.loop-number.invariant c.skip-stand.ensures in
-    omega (arith, passes turns here _ _ c.in_ok-number.ensures)
-
 pub returns-in_err-count-in-Last : goal.returns-in_err-count-in-Last
 returns-in_err-count-in-Last g c =
     let turns = g.met.S.Source.turns c.args.source in
@@ -39,21 +29,6 @@ returns-in-Last g c =
     let turns = g.met.S.Source.turns c.args.source in
     let here = skipped c.loop-number.invariant c.skip-stand.ensures in
     finishes turns here _ _ c.in_ok-number.ensures _ _ c.size.ensures c.in_ok-count-in-Last.ensures (sym c.in-Last.is ∙ c.advance.ensures)
-
-pub slice_bounds-note-end : goal.slice_bounds-note-end
-slice_bounds-note-end g c = sym c.loop-number.invariant.room
-
-pub overflow_add-n-in-More : goal.overflow_add-n-in-More
-overflow_add-n-in-More g c =
-    let turns = g.met.S.Source.turns c.args.source in
-    let here = skipped c.loop-number.invariant c.skip-stand.ensures in
-    omega (arith, passes turns here _ _ c.in_ok-number.ensures)
-
-pub loop-number-smaller : goal.loop-number-smaller
-loop-number-smaller g c =
-    let turns = g.met.S.Source.turns c.args.source in
-    let here = skipped c.loop-number.invariant c.skip-stand.ensures in
-    omega (arith, c.skip-stand.ensures.later, passes turns here _ _ c.in_ok-number.ensures)
 
 pub loop-number-preserved : goal.loop-number-preserved
 loop-number-preserved g c =

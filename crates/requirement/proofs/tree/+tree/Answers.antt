@@ -1,4 +1,3 @@
-use native.Mathlib.Omega.{arith}
 use Rattle.std.proofs.lemmas.Result.{err_from_is_err_and}
 use Rattle.requirement.proofs.Parts.{no_tag, unknown_tag, past_limit, at_mark, at_atom, at_one, at_two_refused, at_second_refused, at_two}
 use Rattle.requirement.proofs.tree.+tree.Goals as goal
@@ -19,15 +18,6 @@ returns-then-depth-eq0 g t c =
     let turns = g.met.S.Source.turns c.args.source in
     rw c.at-then-depth-eq0.ensures
     (past_limit _ _ _ _ turns _ _ _ c.in_ok-number.ensures _ c.tag_in.ensures _ (rw c.in-Some.is) c.then-depth-eq0.either)
-
-pub tree-requires : goal.tree-requires
-tree-requires g t c κs within = (omega (arith, c.decreases), within)
-
-pub tree-requires-in-OverTwo : goal.tree-requires-in-OverTwo
-tree-requires-in-OverTwo g t c κs within = (omega (arith, c.decreases), within)
-
-pub tree-requires-in-OverTwo-2 : goal.tree-requires-in-OverTwo-2
-tree-requires-in-OverTwo-2 g t c κs within = (omega (arith, c.decreases), within)
 
 pub returns-in_err-first-in-OverTwo : goal.returns-in_err-first-in-OverTwo
 returns-in_err-first-in-OverTwo g t c =

@@ -1,9 +1,6 @@
 use native.Mathlib.Omega.{arith}
-use Rattle.table.proofs.Stands.{stays, few_behind, acted}
+use Rattle.table.proofs.Stands.{few_behind, acted}
 use Rattle.table.proofs.skips.skip_actions.Goals as goal
-
-pub loop-here-init : goal.loop-here-init
-loop-here-init g c = stays
 
 pub overflow_add-count : goal.overflow_add-count
 overflow_add-count g c = omega (arith, few_behind (acted c.loop-here.invariant c.in-Some.ensures) c.requires)

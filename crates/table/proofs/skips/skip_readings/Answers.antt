@@ -1,8 +1,5 @@
-use Rattle.table.proofs.Stands.{stays, seen}
+use Rattle.table.proofs.Stands.{seen}
 use Rattle.table.proofs.skips.skip_readings.Goals as goal
-
-pub loop-left-init : goal.loop-left-init
-loop-left-init g c = stays
 
 pub loop-left-preserved : goal.loop-left-preserved
 loop-left-preserved g c =

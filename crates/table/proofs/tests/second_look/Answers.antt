@@ -1,11 +1,7 @@
-use native.Mathlib.Omega.{arith}
 use mathlib.Core.Path.{refl, sym, ◌∙◌}
 use Rattle.table.specs.declared.tests.Ruling.TheVariants.{Wrong, Behind}
-use Rattle.table.proofs.SecondLook.{begins, stops, passes, says_so, no_more, goes_on}
+use Rattle.table.proofs.SecondLook.{stops, says_so, no_more, goes_on}
 use Rattle.table.proofs.tests.second_look.Goals as goal
-
-pub loop-number-init : goal.loop-number-init
-loop-number-init g c = begins _ _ _ _
 
 pub returns : goal.returns
 returns g c =
@@ -29,11 +25,6 @@ returns-in_default-advance g c =
     let turns = g.met.S.Source.turns c.args.source in
     no_more turns c.loop-number.invariant _ _ c.in-Ok.ensures _ c.role_of.ensures (sym c.in-Fine.is ∙ c.test_says.ensures)
     (λ to h. c.in_default-advance.not-More to (c.advance.ensures ∙ h))
-
-pub loop-number-smaller : goal.loop-number-smaller
-loop-number-smaller g c =
-    let turns = g.met.S.Source.turns c.args.source in
-    omega (arith, passes turns c.loop-number.invariant _ _ c.in-Ok.ensures)
 
 pub loop-number-preserved : goal.loop-number-preserved
 loop-number-preserved g c =
