@@ -11,7 +11,6 @@ use borrow.Author.Tests.{lt-ltb, le-ltb, ltb-false}
 use Rattle.coding.specs.Refusal.{NumberRead, value_then, refused_at}
 use Rattle.std.specs.Prelude.{Ok, Err}
 use Rattle.coding.specs.Number.{pick, number_at}
-use Rattle.coding.specs.declared.Cause.{Cause}
 use Rattle.coding.specs.declared.Cause.TheVariants.{CutShort, LeftOver}
 use Rattle.coding.specs.Working.Rows.{Row, row, next_row}
 use Rattle.report.specs.Framing.{block_at, with_third, with_second, with_first, framing_of, BlockAt, Framing, block_from, blocks_from}
@@ -26,17 +25,9 @@ block_by s at x =
 
 -- ---- the ways through `block_at`
 module _ (s : List ℕ) (at : ℕ) where
-  pub no_length : (cause : Cause) (q : ℕ) → refused_at cause q ≡ number_at s at → refused_at cause q ≡ block_at s at
-  unfolding block_at
-  no_length cause q e = rw (block_at, ← e)
-
   module _ (n next : ℕ) (e : value_then n next ≡ number_at s at) where
     pub length_inside : next ≤ length s
     length_inside = (next_row s at n next e).2
-
-    pub cut_block : length s - next < n → refused_at CutShort at ≡ block_at s at
-    unfolding block_at
-    cut_block h = rw (block_at, ← e, lt-ltb _ _ h)
 
     pub whole_block : n ≤ length s - next → block_from next (next + n) ≡ block_at s at
     unfolding block_at
@@ -45,19 +36,10 @@ module _ (s : List ℕ) (at : ℕ) where
 -- ---- the ways through the three blocks
 module _ (s : List ℕ) (a b c d : ℕ) where
   module _ (x : BlockAt) (e f : ℕ) (found : block_from e f ≡ x) where
-    pub left_over : f < length s → refused_at LeftOver f ≡ with_third s a b c d x
-    left_over h = rw (← found, lt-ltb _ _ h)
-
     pub all_blocks : length s ≤ f → blocks_from a b c d e f ≡ with_third s a b c d x
     all_blocks h = rw (← found, le-ltb _ _ h)
 
-  pub no_third : (x : BlockAt) (cause : Cause) (q : ℕ) → refused_at cause q ≡ x → refused_at cause q ≡ with_third s a b c d x
-  no_third x cause q e = rw (← e)
-
 module _ (s : List ℕ) (a b : ℕ) (x : BlockAt) where
-  pub no_second : (cause : Cause) (q : ℕ) → refused_at cause q ≡ x → refused_at cause q ≡ with_second s a b x
-  no_second cause q e = rw (← e)
-
   pub by_third : (c d : ℕ) (r : Framing) → block_from c d ≡ x → r ≡ with_third s a b c d (block_at s d) → r ≡ with_second s a b x
   by_third c d r e h = rw (← e) h
 
@@ -69,9 +51,6 @@ module _ (s : List ℕ) where
   pub short_input : length s ≤ 60000 → with_first s (block_at s 0) ≡ framing_of s
   unfolding framing_of
   short_input h = rw (le-ltb _ _ h)
-
-  pub no_first : (cause : Cause) (q : ℕ) → refused_at cause q ≡ block_at s 0 → refused_at cause q ≡ with_first s (block_at s 0)
-  no_first cause q e = rw (← e)
 
   pub by_second : (a b : ℕ) (r : Framing) → block_from a b ≡ block_at s 0 → r ≡ with_second s a b (block_at s b) → r ≡ with_first s (block_at s 0)
   by_second a b r e g = rw (← e) g

@@ -23,12 +23,13 @@ pub struct Blocks {
 }
 
 // The block whose length stands at a place.
+#[tactic(auto, unfolding(crate::specs::Framing::block_at))]
 fn block_at(input: &[u8], at: usize) -> Result<Block, Refusal>
     ensures { result ≡ block_at input.now at }
 {
     let length = coding::read_number(input, at)?;
     let begin = length.next;
-    let size = length.value as usize;
+    let size = usize::from(length.value);
     let left = input.len() - begin;
     if left < size {
         return Err(Cause::CutShort.at(at));
@@ -57,6 +58,7 @@ fn three_blocks(input: &[u8]) -> Result<Blocks, Refusal>
 }
 
 // The blocks of an input that is not too long.
+#[tactic(auto, unfolding(crate::specs::Framing::framing_of))]
 pub fn framing(input: &[u8]) -> Result<Blocks, Refusal>
     ensures { result ≡ framing_of input.now }
 {
