@@ -35,7 +35,7 @@ impl Accepted for Number {
     ghost told = { λ number. accepted number.value number.next };
 
     fn told(self) -> Told {
-        accept(self.value as usize, self.next)
+        accept(usize::from(self.value), self.next)
     }
 }
 
@@ -51,7 +51,7 @@ impl Accepted for Checked {
     ghost told = { λ sizes. accepted sizes.nodes sizes.depth };
 
     fn told(self) -> Told {
-        accept(self.nodes as usize, self.depth as usize)
+        accept(usize::from(self.nodes), usize::from(self.depth))
     }
 }
 
@@ -75,7 +75,7 @@ impl Accepted for Verdict {
     ghost told = { λ verdict. accepted (digit verdict.holds) verdict.count };
 
     fn told(self) -> Told {
-        accept(self.holds as usize, self.count)
+        accept(usize::from(self.holds), self.count)
     }
 }
 
@@ -93,7 +93,7 @@ fn refuse(why: Refusal) -> Told
     ensures { result ≡ refusal why.cause why.place }
 {
     Told {
-        refusal: coding::number_of(why.cause) as u64,
+        refusal: u64::from(coding::number_of(why.cause)),
         first: why.place as u64,
         second: 0,
     }
@@ -122,12 +122,14 @@ fn kind_of(translated: bool) -> Kind
     ensures { result ≡ kind_of translated }
 {
     if translated {
-        return Kind::Translated;
+        Kind::Translated
+    } else {
+        Kind::Untranslated
     }
-    Kind::Untranslated
 }
 
 // The number at a place: its value and the place after it.
+#[tactic(auto, using(crate::proofs::Tells::number_is))]
 #[unsafe(no_mangle)]
 pub extern "C" fn scancheck_read_number(code: &[u8], at: usize) -> Told
     ensures { result ≡ number_told (number_at code.now at) }
@@ -136,6 +138,7 @@ pub extern "C" fn scancheck_read_number(code: &[u8], at: usize) -> Told
 }
 
 // A number into the first bytes of a buffer: how many.
+#[tactic(auto, using(crate::proofs::Tells::answer_is))]
 #[unsafe(no_mangle)]
 pub extern "C" fn scancheck_write_number(v: u16, buf: &mut [u8]) -> Told
     ensures answers { result ≡ answer_told (wrote_number v buf.old) }
@@ -145,6 +148,7 @@ pub extern "C" fn scancheck_write_number(v: u16, buf: &mut [u8]) -> Told
 }
 
 // A requirement's bytes: how many nodes, and how deep.
+#[tactic(auto, using(crate::proofs::Tells::checked_is))]
 #[unsafe(no_mangle)]
 pub extern "C" fn scancheck_check_requirement(translated: bool, code: &[u8]) -> Told
     ensures { result ≡ checked_told (checked (kind_of translated) (code_at code.now 0)) }
@@ -153,6 +157,7 @@ pub extern "C" fn scancheck_check_requirement(translated: bool, code: &[u8]) -> 
 }
 
 // A requirement's bytes into numbers: how many.
+#[tactic(auto, using(crate::proofs::Tells::answer_is))]
 #[unsafe(no_mangle)]
 pub extern "C" fn scancheck_read_requirement(translated: bool, code: &[u8], out: &mut [u16]) -> Told
     ensures answers { result ≡ read_told (grammar (kind_of translated)) code.now out.old }
@@ -162,6 +167,7 @@ pub extern "C" fn scancheck_read_requirement(translated: bool, code: &[u8], out:
 }
 
 // A requirement's numbers into bytes: how many.
+#[tactic(auto, using(crate::proofs::Tells::answer_is))]
 #[unsafe(no_mangle)]
 pub extern "C" fn scancheck_write_requirement(
     translated: bool,
@@ -175,6 +181,7 @@ pub extern "C" fn scancheck_write_requirement(
 }
 
 // A table's bytes into numbers: how many.
+#[tactic(auto, using(crate::proofs::Tells::answer_is))]
 #[unsafe(no_mangle)]
 pub extern "C" fn scancheck_read_table(code: &[u8], out: &mut [u16]) -> Told
     ensures answers { result ≡ read_told (table_grammar most_processes) code.now out.old }
@@ -184,6 +191,7 @@ pub extern "C" fn scancheck_read_table(code: &[u8], out: &mut [u16]) -> Told
 }
 
 // A table's numbers into bytes: how many.
+#[tactic(auto, using(crate::proofs::Tells::answer_is))]
 #[unsafe(no_mangle)]
 pub extern "C" fn scancheck_write_table(numbers: &[u16], buf: &mut [u8]) -> Told
     ensures answers { result ≡ write_told (table_grammar most_processes) numbers.now buf.old }
@@ -193,6 +201,7 @@ pub extern "C" fn scancheck_write_table(numbers: &[u16], buf: &mut [u8]) -> Told
 }
 
 // The bytes of an inputs record of so many input variables into numbers: how many.
+#[tactic(auto, using(crate::proofs::Tells::answer_is))]
 #[unsafe(no_mangle)]
 pub extern "C" fn scancheck_read_inputs(inputs: u16, code: &[u8], out: &mut [u16]) -> Told
     ensures answers { result ≡ read_told (inputs_grammar inputs) code.now out.old }
@@ -202,6 +211,7 @@ pub extern "C" fn scancheck_read_inputs(inputs: u16, code: &[u8], out: &mut [u16
 }
 
 // The numbers of an inputs record into bytes: how many.
+#[tactic(auto, using(crate::proofs::Tells::answer_is))]
 #[unsafe(no_mangle)]
 pub extern "C" fn scancheck_write_inputs(inputs: u16, numbers: &[u16], buf: &mut [u8]) -> Told
     ensures answers { result ≡ write_told (inputs_grammar inputs) numbers.now buf.old }
@@ -211,6 +221,7 @@ pub extern "C" fn scancheck_write_inputs(inputs: u16, numbers: &[u16], buf: &mut
 }
 
 // A requirement's translation as its code: how many bytes.
+#[tactic(auto, using(crate::proofs::Tells::answer_is))]
 #[unsafe(no_mangle)]
 pub extern "C" fn scancheck_translate(code: &[u8], out: &mut [u8]) -> Told
     ensures answers { result ≡ answer_told (translated code.now out.old) }
@@ -246,6 +257,7 @@ pub extern "C" fn scancheck_judge(
 }
 
 // Where in a sheet the body of a name begins and ends.
+#[tactic(auto, using(crate::proofs::Tells::found_is))]
 #[unsafe(no_mangle)]
 pub extern "C" fn scancheck_find(sheet: &[u8], name: &[u8]) -> Told
     ensures { result ≡ found_told (find_in sheet.now name.now) }

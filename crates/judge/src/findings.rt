@@ -50,9 +50,10 @@ fn put_position(p: usize, list: &mut [u8], at: usize) -> usize
 {
     if at + 1 < list.len() {
         list[at..at + 2].copy_from_slice(&(p as u16).to_le_bytes());
-        return at + 2;
+        at + 2
+    } else {
+        at
     }
-    at
 }
 
 // The positions of the bits of byte i of a row, ascending, from a place of the list on. The place after them.

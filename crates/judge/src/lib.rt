@@ -67,7 +67,7 @@ pub fn judge(
     let checked = requirement::check(kind, code)?;
     let n = lasso::check(trace, start)?;
     let row = (n + 7) / 8;
-    let asked = checked.depth as usize * row;
+    let asked = usize::from(checked.depth) * row;
     if work.len() < asked {
         return Err(Cause::ShortBuffer.at(asked));
     }

@@ -37,7 +37,7 @@ fn phase_of(end: End) -> Phase
 fn mark_place(phase: Phase) -> usize
     ensures { (result ≡ mark_place phase) × (result ≤ 1024) }
 {
-    lasso::phase_number(phase) as usize * rows::ROW
+    usize::from(lasso::phase_number(phase)) * rows::ROW
 }
 
 impl<'a> MarkedTrace<'a> {
@@ -106,7 +106,8 @@ impl<'a> MarkedTrace<'a> {
         self.negate(work);
     }
 
-    // The row of a phase as the second row; the first row stays.
+    // The row of a phase as the second row; the first row stays. The rows are parts of one lent buffer: split in two,
+    // what is promised of the buffer would have to be said of each part and put together again.
     fn fill_second(&self, phase: Phase, work: &mut [u8])
         requires { HasRows 2 self.now.trace.now work.old }
         ensures { IsRow self.now.trace.now work.new (bit_at work.old)
@@ -116,7 +117,7 @@ impl<'a> MarkedTrace<'a> {
         self.fill_phase(phase, &mut work[row..]);
     }
 
-    // The second row where the phase is this one; the first row stays.
+    // The second row where the phase is this one; the first row stays, and the two stay one buffer, as in fill_second.
     fn keep_second(&self, phase: Phase, work: &mut [u8])
         requires { HasRows 2 self.now.trace.now work.old }
         ensures { IsRow self.now.trace.now work.new (bit_at work.old)

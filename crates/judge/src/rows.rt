@@ -35,7 +35,7 @@ fn word(work: &[u8], i: usize) -> u64
     requires { (i + 4 ≤ length work.now) × (i ≤ 1024) }
     ensures { (result ≡ word_at work.now i) × (result < 2 ^ 32) }
 {
-    u32::from_be_bytes([work[i], work[i + 1], work[i + 2], work[i + 3]]) as u64
+    u64::from(u32::from_be_bytes([work[i], work[i + 1], work[i + 2], work[i + 3]]))
 }
 
 // The four bytes of x from i on.
@@ -61,7 +61,7 @@ fn walk_back(work: &[u8], row: usize, from: usize) -> u64
         carry = until(word(work, i), word(work, row + i), carry, 32).1;
     }
     for i in (from..head).rev() {
-        carry = until(work[i] as u64, work[row + i] as u64, carry, 8).1;
+        carry = until(u64::from(work[i]), u64::from(work[row + i]), carry, 8).1;
     }
     carry
 }
@@ -83,7 +83,7 @@ fn step_byte(work: &mut [u8], row: usize, i: usize, behind: u64) -> u64
         ≡ set work.old i (until_b (slice_index work.old i) (slice_index work.old (row + i)) behind) }
     ensures carry_is { result ≡ carry_b (slice_index work.old i) (slice_index work.old (row + i)) behind }
 {
-    let (value, carry) = until(work[i] as u64, work[row + i] as u64, behind, 8);
+    let (value, carry) = until(u64::from(work[i]), u64::from(work[row + i]), behind, 8);
     work[i] = value as u8;
     carry
 }
@@ -95,7 +95,7 @@ fn walk_row(work: &mut [u8], row: usize, last: bool)
         → bit_at work.new p ≡ walk (bit_at work.old) (bit_at (drop row work.old)) last (8 * row - p) p }
 {
     let head = row % 4;
-    let mut carry = last as u64;
+    let mut carry = u64::from(last);
     for k in (0..row / 4).rev() {
         carry = step_word(work, row, head + 4 * k, carry);
     }
@@ -111,7 +111,12 @@ fn join(work: &[u8], row: usize, start: usize) -> bool
 {
     let from = start / 8;
     let behind = walk_back(work, row, from + 1);
-    let (value, _) = until(work[from] as u64, work[row + from] as u64, behind, 8);
+    let (value, _) = until(
+        u64::from(work[from]),
+        u64::from(work[row + from]),
+        behind,
+        8,
+    );
     bit(value as u8, 7 - start % 8)
 }
 
@@ -223,7 +228,7 @@ fn digit_byte(trace: &[u8], column: usize, k: usize, p: usize, c: usize) -> u8
     let mask = 1u8 << k;
     let mut digits = 0u32;
     for j in 0..c {
-        digits = digits * 2 + (trace[(p + j) * 5 + column] & mask) as u32;
+        digits = digits * 2 + u32::from(trace[(p + j) * 5 + column] & mask);
     }
     placed(digits >> k, c)
 }
@@ -253,7 +258,8 @@ pub fn fill_atom(trace: &[u8], a: usize, work: &mut [u8])
     fill_digit(trace, 1 + a / 8, a % 8, work);
 }
 
-// The first row becomes what neither of the two behind it has.
+// The first row becomes what neither of the two behind it has. A byte is named by its place in the one buffer: split in
+// three, what is promised of the buffer would have to be said of each part and put together again.
 fn fill_neither(marks: &mut [u8])
     requires { length marks.old ≡ 3 * longest_row }
     ensures { ((p : ℕ) → p < 8 * longest_row → bit_at marks.new p

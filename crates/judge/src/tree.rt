@@ -31,7 +31,7 @@ pub fn judge_node(
     let next = found.next;
     match found.node {
         Node::Atom(k) => {
-            rows::fill_atom(marked.trace, k as usize, work);
+            rows::fill_atom(marked.trace, usize::from(k), work);
             next
         }
         Node::Mark(mark) => {

@@ -11,7 +11,6 @@ use borrow.Author.Tests.{lt-ltb, le-ltb, leb-true}
 use Rattle.coding.specs.Refusal.{NumberRead, refused_at}
 use Rattle.std.specs.Prelude.{Ok, Err}
 use Rattle.coding.specs.Number.{pick, number_at}
-use Rattle.coding.specs.declared.Cause.{Cause}
 use Rattle.coding.specs.declared.Cause.TheVariants.{CutShort, LeftOver}
 use Rattle.report.specs.Framing.{with_third, with_second, with_first, framing_of, Framing, blocks_from}
 use Rattle.coding.specs.Block.{block_of, block_at, BlockAt, span_from}
@@ -19,19 +18,10 @@ use Rattle.coding.specs.Block.{block_of, block_at, BlockAt, span_from}
 -- ---- the ways through the three blocks
 module _ (s : List ℕ) (a b c d : ℕ) where
   module _ (x : BlockAt) (e f : ℕ) (found : span_from e f ≡ x) where
-    pub left_over : f < length s → refused_at LeftOver f ≡ with_third s a b c d x
-    left_over h = rw (← found, lt-ltb _ _ h)
-
     pub all_blocks : length s ≤ f → blocks_from a b c d e f ≡ with_third s a b c d x
     all_blocks h = rw (← found, le-ltb _ _ h)
 
-  pub no_third : (x : BlockAt) (cause : Cause) (q : ℕ) → refused_at cause q ≡ x → refused_at cause q ≡ with_third s a b c d x
-  no_third x cause q e = rw (← e)
-
 module _ (s : List ℕ) (a b : ℕ) (x : BlockAt) where
-  pub no_second : (cause : Cause) (q : ℕ) → refused_at cause q ≡ x → refused_at cause q ≡ with_second s a b x
-  no_second cause q e = rw (← e)
-
   pub by_third : (c d : ℕ) (r : Framing) → span_from c d ≡ x → r ≡ with_third s a b c d (block_at s d) → r ≡ with_second s a b x
   by_third c d r e h = rw (← e) h
 
@@ -43,9 +33,6 @@ module _ (s : List ℕ) where
   pub short_input : length s ≤ 60000 → with_first s (block_at s 0) ≡ framing_of s
   unfolding framing_of
   short_input h = rw (le-ltb _ _ h)
-
-  pub no_first : (cause : Cause) (q : ℕ) → refused_at cause q ≡ block_at s 0 → refused_at cause q ≡ with_first s (block_at s 0)
-  no_first cause q e = rw (← e)
 
   pub by_second : (a b : ℕ) (r : Framing) → span_from a b ≡ block_at s 0 → r ≡ with_second s a b (block_at s b) → r ≡ with_first s (block_at s 0)
   by_second a b r e g = rw (← e) g

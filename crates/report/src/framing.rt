@@ -34,6 +34,7 @@ fn three_blocks(input: &[u8]) -> Result<Blocks, Refusal>
 }
 
 // The blocks of an input that is not too long.
+#[tactic(auto, unfolding(crate::specs::Framing::framing_of))]
 pub fn framing(input: &[u8]) -> Result<Blocks, Refusal>
     ensures { result ≡ framing_of input.now }
 {

@@ -123,7 +123,7 @@ pub fn put_refused(why: Refusal, out: &mut [u8]) -> usize
 {
     let mut lines = Lines { out, at: 0 };
     lines.word(b"refused ");
-    lines.number(coding::number_of(why.cause) as usize);
+    lines.number(usize::from(coding::number_of(why.cause)));
     lines.word(b" ");
     lines.at_line(why.place);
     lines.at

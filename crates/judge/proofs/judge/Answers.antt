@@ -25,8 +25,9 @@ returns-then-work-asked c =
     let h = code_whole a.kind a.code.now c.in_ok-checked.ensures in
     rw (
       work_short h a.trace.now a.start (length a.work.now) (length a.list.now)
-          (sym c.in_ok-n.ensures) c.if-work-asked.true,
+          (sym c.in_ok-n.ensures) (rw c.from.ensures at c.if-work-asked.true),
       c.at.ensures,
+      c.from.ensures,
     ) (refl, refl, refl)
 
 pub overflow_mul-wanted : goal.overflow_mul-wanted
@@ -41,7 +42,7 @@ returns-then-list-wanted c =
     let h = code_whole a.kind a.code.now c.in_ok-checked.ensures in
     rw (
       list_short h a.trace.now a.start (length a.work.now) (length a.list.now) (sym c.in_ok-n.ensures)
-          c.if-work-asked.false _ c.count_inputs-wanted.ensures c.if-list-wanted.true,
+          (rw c.from.ensures at c.if-work-asked.false) _ c.count_inputs-wanted.ensures c.if-list-wanted.true,
       c.at-then-list-wanted.ensures,
     )
     (refl, refl, refl)
@@ -51,7 +52,7 @@ judge_rows-verdict-requires c =
     let a = c.args in
     let h = code_whole a.kind a.code.now c.in_ok-checked.ensures in
     let l = accepted_is_well_formed a.trace.now a.start _ (sym c.in_ok-n.ensures) in
-    room_fine h l a.work.now c.if-work-asked.false
+    room_fine h l a.work.now (rw c.from.ensures at c.if-work-asked.false)
 
 pub slice_bounds-list_row-end : goal.slice_bounds-list_row-end
 slice_bounds-list_row-end c =
@@ -59,7 +60,7 @@ slice_bounds-list_row-end c =
     let h = code_whole a.kind a.code.now c.in_ok-checked.ensures in
     let l = accepted_is_well_formed a.trace.now a.start _ (sym c.in_ok-n.ensures) in
     let size = c.judge_rows-verdict.auto.work in
-    row_fits h l a.work.now c.judge_rows-verdict.new.work size c.if-work-asked.false
+    row_fits h l a.work.now c.judge_rows-verdict.new.work size (rw c.from.ensures at c.if-work-asked.false)
 
 pub slice_bounds-list_row-end-2 : goal.slice_bounds-list_row-end-2
 slice_bounds-list_row-end-2 c =
@@ -67,7 +68,7 @@ slice_bounds-list_row-end-2 c =
     let h = code_whole a.kind a.code.now c.in_ok-checked.ensures in
     let l = accepted_is_well_formed a.trace.now a.start _ (sym c.in_ok-n.ensures) in
     let w = c.judge_rows-verdict.new.work in
-    let room = row_fits h l a.work.now w c.judge_rows-verdict.auto.work c.if-work-asked.false in
+    let room = row_fits h l a.work.now w c.judge_rows-verdict.auto.work (rw c.from.ensures at c.if-work-asked.false) in
     omega (arith, room, length-take (row_of c.in_ok-n.n) w)
 
 pub list_row-requires : goal.list_row-requires
@@ -77,7 +78,7 @@ list_row-requires c =
     let l = accepted_is_well_formed a.trace.now a.start _ (sym c.in_ok-n.ensures) in
     let size = c.judge_rows-verdict.auto.work in
     let w = c.judge_rows-verdict.new.work in
-    let room = row_fits h l a.work.now w size c.if-work-asked.false in
+    let room = row_fits h l a.work.now w size (rw c.from.ensures at c.if-work-asked.false) in
     let r = row_of c.in_ok-n.n in (
       part_few l w r refl,
       list_fits h l w c.judge_rows-verdict.result r refl room c.judge_rows-verdict.ensures _
@@ -112,10 +113,10 @@ returns c =
     let l = accepted_is_well_formed a.trace.now a.start _ (sym c.in_ok-n.ensures) in
     let size = c.judge_rows-verdict.auto.work in
     let w = c.judge_rows-verdict.new.work in
-    let room = row_fits h l a.work.now w size c.if-work-asked.false in
+    let room = row_fits h l a.work.now w size (rw c.from.ensures at c.if-work-asked.false) in
     let r = row_of c.in_ok-n.n in
     rw
     (all_fine h a.trace.now a.start (length a.work.now) (length a.list.now) (sym c.in_ok-n.ensures)
-    c.if-work-asked.false _ c.count_inputs-wanted.ensures c.if-list-wanted.false)
+    (rw c.from.ensures at c.if-work-asked.false) _ c.count_inputs-wanted.ensures c.if-list-wanted.false)
     (accepted h l w c.judge_rows-verdict.result r refl room c.judge_rows-verdict.ensures
     a.work.now a.list.now _ _ size c.clear.ensures c.list_row.ensures)

@@ -12,7 +12,7 @@ pub loop-j-preserved : goal.loop-j-preserved
 loop-j-preserved c =
     let l = c.loop-j in
     let a = c.args in
-    rw (mask_is a.k (omega arith)) (packing_masked l.invariant _ (omega arith) (omega arith) refl)
+    rw (c.from.ensures, mask_is a.k (omega arith)) (packing_masked l.invariant _ (omega arith) (omega arith) refl)
 
 pub placed-requires : goal.placed-requires
 placed-requires c =

@@ -14,4 +14,4 @@ returns c =
     let y = c.type_inv.work (a.row + i) in
     let b = both_bytes a.work.now a.row i _ _ (omega arith) (omega arith) refl refl in
     let h = carried_is a.work.now a.row false (i + 1) _ c.walk_back-behind.ensures in
-    c.bit.ensures ∙ rw c.until-value.ensures.value.0 (wide_position i a.start (walked 7 b (omega arith) (omega arith) h) refl)
+    c.bit.ensures ∙ rw (c.until-value.ensures.value.0, c.from.ensures, c.from-2.ensures) (wide_position i a.start (walked 7 b (omega arith) (omega arith) h) refl)

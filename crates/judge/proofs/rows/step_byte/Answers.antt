@@ -3,4 +3,4 @@ use Rattle.judge.proofs.rows.step_byte.Goals as goal
 
 pub returns-clause-carry_is : goal.returns-clause-carry_is
 unfolding carry_b
-returns-clause-carry_is c = c.until-value.ensures.carry
+returns-clause-carry_is c = rw (← c.from.ensures, ← c.from-2.ensures) c.until-value.ensures.carry

@@ -28,7 +28,7 @@ loop-i-preserved c =
     let x = given i in
     let y = given (a.row + i) in
     let b = both_bytes a.work.now a.row i _ _ (omega arith) (omega arith) refl refl in
-    (omega arith, rw c.until-carry-in-loop-i.ensures.carry (carried 7 b (omega arith) (omega arith) c.loop-i.invariant.1))
+    (omega arith, rw (c.until-carry-in-loop-i.ensures.carry, c.from.ensures, c.from-in-loop-i.ensures) (carried 7 b (omega arith) (omega arith) c.loop-i.invariant.1))
 
 pub returns : goal.returns
 unfolding at_until

@@ -11,7 +11,7 @@ pub loop-k-init : goal.loop-k-init
 loop-k-init c =
     let a = c.args in
     let e : a.row % 4 + 4 * (a.row / 4) ≡ a.row = omega arith in
-    rw e (carried_end a.work.now a.row a.last, down_none a.work.now a.row a.last)
+    rw (c.from-carry.ensures, e) (carried_end a.work.now a.row a.last, down_none a.work.now a.row a.last)
 
 pub loop-k-preserved : goal.loop-k-preserved
 unfolding carry_w

@@ -37,7 +37,7 @@ judge_node-returns-in-Atom t c =
     let a = c.args in
     rowed_atom a.kind a.code.now a.at a.depth a.marked.now.trace.now a.marked.now.start _ _ c.if-depth-eq0.false _
     (node_found a.kind a.code.now a.at c.in-Ok.ensures c.in-Atom.is)
-    c.fill_atom.ensures
+    (rw c.from.ensures at c.fill_atom.ensures)
 
 pub judge_node-returns-in-Mark : goal.judge_node-returns-in-Mark
 judge_node-returns-in-Mark t c =

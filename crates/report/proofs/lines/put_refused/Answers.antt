@@ -6,4 +6,4 @@ pub returns : goal.returns
 returns c =
     let all =
     refused_puts _ _ _ _ _ _ _ c.word.ensures c.number.ensures.puts c.word-2.ensures c.at_line.ensures.puts in
-    rw (← c.number_of.ensures) ((all.place, search rules), omega arith)
+    rw (← c.number_of.ensures, ← c.from.ensures) ((all.place, search rules), omega arith)
