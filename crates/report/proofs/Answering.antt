@@ -102,15 +102,15 @@ module _ (table inputs code trace trace' : List ℕ) (r : Ran) (l : length trace
     pub closed_inside : n * 5 ≤ length trace'
     closed_inside = omega (arith, ap length filled ∙ over_length Blank 0 Bytes ∙ blank_length, closed_few)
 
-    closed_part : take (n * 5 - 0) (drop 0 trace') ≡ Bytes
+    closed_part : take (n * 5) trace' ≡ Bytes
     closed_part =
         let size = trace_length (numbers_in table) (numbers_in inputs) n in
-        let k : n * 5 - 0 ≡ length Bytes = omega (arith, size) in
+        let k : n * 5 ≡ length Bytes = omega (arith, size) in
         let room : 0 + length Bytes ≤ length Blank = omega (arith, blank_length, size, closed_few) in
         rw (k, filled, over_eq Blank 0 Bytes room) (take-append_seam Bytes (drop (0 + length Bytes) Blank))
 
     pub closed_prints : (s : ℕ) (d e : List ℕ) →
-        Prints (OfJudging (checks_of Untranslated code (take (n * 5 - 0) (drop 0 trace')) start work_room list_room) (trace_of (take (n * 5 - 0) (drop 0 trace')) start) n start) s d e →
+        Prints (OfJudging (checks_of Untranslated code (take (n * 5) trace') start work_room list_room) (trace_of (take (n * 5) trace') start) n start) s d e →
         Prints (OfBlocks table inputs code) s d e
     closed_prints s d d' p =
         record { text = p.text; true_of = rw (by_ran (closes_at n start) e, ← closed_part) p.true_of; count = p.count; short = p.short; stands = p.stands }

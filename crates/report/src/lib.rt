@@ -12,6 +12,7 @@ ghost use Rattle.report.specs.Reporting.{work_room, list_room, OfJudging, OfBloc
 ghost use Rattle.report.specs.Printing.{Prints};
 
 use requirement::Kind;
+use run::Closed;
 
 // Room for the trace, for work and for the list.
 const TRACE: usize = 20480;
@@ -21,13 +22,21 @@ const WORK: usize = 8192;
 const LIST: usize = 8192;
 
 // Judges the requirement on the run's trace.
-fn report_judging(code: &[u8], n: usize, start: usize, trace: &[u8], out: &mut [u8]) -> usize
-    ensures { Prints (OfJudging (checks_of Untranslated code.now trace.now start work_room list_room) (trace_of trace.now start) n start) result out.old out.new }
+fn report_judging(code: &[u8], closed: Closed, trace: &[u8], out: &mut [u8]) -> usize
+    ensures { Prints (OfJudging (checks_of Untranslated code.now trace.now closed.start work_room list_room)
+        (trace_of trace.now closed.start) closed.positions closed.start) result out.old out.new }
 {
     let mut work = [0u8; WORK];
     let mut list = [0u8; LIST];
-    match judge::judge(Kind::Untranslated, code, trace, start, &mut work, &mut list) {
-        Ok(verdict) => lines::put_answer(n, start, verdict.holds, verdict.count, &list, out),
+    match judge::judge(
+        Kind::Untranslated,
+        code,
+        trace,
+        closed.start,
+        &mut work,
+        &mut list,
+    ) {
+        Ok(verdict) => lines::put_answer(closed, verdict, &list, out),
         Err(why) => lines::put_refused(why, out),
     }
 }
@@ -39,8 +48,8 @@ fn report_blocks(table: &[u8], inputs: &[u8], code: &[u8], out: &mut [u8]) -> us
     let mut trace = [0u8; TRACE];
     match run::run(table, inputs, &mut trace) {
         Ok(closed) => {
-            let n = closed.positions;
-            report_judging(code, n, closed.start, &trace[0..n * 5], out)
+            let front = closed.positions * 5;
+            report_judging(code, closed, &trace[..front], out)
         }
         Err(stop) => lines::put_refused(stop.told(), out),
     }

@@ -8,6 +8,8 @@ ghost use Rattle.report.specs.Placing.{Put, Puts, pairs_from};
 ghost use Rattle.report.specs.Printing.{longest_text};
 
 use coding::Refusal;
+use judge::Verdict;
+use run::Closed;
 
 // The buffer, and the place in it, or behind its end, where the next byte belongs.
 #[derive(Drop)]
@@ -130,22 +132,16 @@ pub fn put_refused(why: Refusal, out: &mut [u8]) -> usize
 }
 
 // The whole text of an accepted input.
-pub fn put_answer(
-    n: usize,
-    start: usize,
-    holds: bool,
-    count: usize,
-    list: &[u8],
-    out: &mut [u8],
-) -> usize
-    requires { count ≤ 4096 }
-    ensures { Put (positions_line n start ++ (verdict_line holds ++ (count_line count
-        ++ at_lines (pairs_from count 0 list.now)))) 0 result out.old out.new × (result ≤ longest_text) }
+pub fn put_answer(closed: Closed, verdict: Verdict, list: &[u8], out: &mut [u8]) -> usize
+    requires { verdict.count ≤ 4096 }
+    ensures { Put (positions_line closed.positions closed.start ++ (verdict_line verdict.holds
+        ++ (count_line verdict.count ++ at_lines (pairs_from verdict.count 0 list.now)))) 0 result out.old out.new
+        × (result ≤ longest_text) }
 {
     let mut lines = Lines { out, at: 0 };
-    lines.positions(n, start);
-    lines.verdict(holds);
-    lines.count(count);
-    lines.findings(list, count);
+    lines.positions(closed.positions, closed.start);
+    lines.verdict(verdict.holds);
+    lines.count(verdict.count);
+    lines.findings(list, verdict.count);
     lines.at
 }
