@@ -2,7 +2,7 @@
 -- Assumes nothing.
 use Prim.Native.Nat.{ℕ, suc, ◌+◌, ◌/◌, ◌%◌, ◌≤◌, ◌<◌}
 use native.Mathlib.Omega.{arith}
-use native.Mathlib.Numerals.{add-one, add-two}
+use native.Mathlib.Numerals.{add-one}
 use mathlib.Core.Path.{◌≡◌, refl}
 use mathlib.Core.List.{List, [], ◌∷◌, ◌++◌}
 use lib.ListN.{length, set, take, drop}
@@ -32,14 +32,6 @@ module _ (d : List ℕ) (at : ℕ) where
   pub store₁ : (a : ℕ) → set d at a ≡ over d at (a ∷ [])
   unfolding over
   store₁ a = refl
-
-  pub store₂ : (a b : ℕ) → set (set d at a) (at + 1) b ≡ over d at (a ∷ b ∷ [])
-  unfolding over
-  store₂ a b = rw (add-one at)
-
-  pub store₃ : (a b c : ℕ) → set (set (set d at a) (at + 1) b) (at + 2) c ≡ over d at (a ∷ b ∷ c ∷ [])
-  unfolding over
-  store₃ a b c = rw (add-one at, add-two at)
 
   pub over_cons : (a : ℕ) (bs : List ℕ) → over d at (a ∷ bs) ≡ over (set d at a) (at + 1) bs
   unfolding over
@@ -73,10 +65,6 @@ over_full d i (a ∷ bs) h = rw (set_out d i a h) (over_full d (suc i) bs (omega
 pick≥ : (b : Bool) (x y : List ℕ) (n : ℕ) → n ≤ length x → n ≤ length y → n ≤ length (pick b x y)
 pick≥ true x y n p q = p
 pick≥ false x y n p q = q
-
-pub two≤ : (v : ℕ) → 128 ≤ v → 2 ≤ length (bytes_of v)
-unfolding bytes_of
-two≤ v g = rw (le-ltb _ _ g) (pick≥ (ltb v 16384) _ _ 2 (lit≤ tt) (lit≤ tt))
 
 pub three_at_most : (v : ℕ) → length (bytes_of v) ≤ 3
 unfolding bytes_of

@@ -15,10 +15,6 @@ module _ (xs : List ℕ) (i : ℕ) (h : i < length xs) where
   pub next_length : length (bytes_of_all (drop i xs)) ≡ length (bytes_of (get_or xs i 0)) + length (bytes_of_all (drop (i + 1) xs))
   next_length = rw (bytes_next xs i h, length-append)
 
-  pub size_turn : (n m : ℕ) → m ≡ length (bytes_of (get_or xs i 0)) →
-      (n + m + length (bytes_of_all (drop (i + 1) xs)) ≡ n + length (bytes_of_all (drop i xs))) × (m ≤ 3)
-  size_turn n m e = (omega (arith, next_length), omega (arith, three_at_most (get_or xs i 0)))
-
   pub bytes_turn : (d d' : List ℕ) (at r : ℕ) →
       (r ≡ at + length (bytes_of (get_or xs i 0))) × (d' ≡ over d at (bytes_of (get_or xs i 0))) →
       at + length (bytes_of_all (drop i xs)) ≤ length d →

@@ -6,10 +6,9 @@ use mathlib.Core.Path.{◌≡◌}
 use mathlib.Core.Bool.{Bool, true, false}
 use mathlib.Core.List.{List}
 use lib.ListN.{length}
-use borrow.Author.Tests.{eq-eqb, ne_eqb, lt-ltb, le-ltb}
-use Rattle.coding.specs.declared.Refusal.{Refusal}
+use borrow.Author.Tests.{eq-eqb, ne_eqb, lt-ltb}
 use Rattle.coding.specs.Refusal.{Answer, refused_at}
-use Rattle.std.specs.Prelude.{Ok, Err}
+use Rattle.std.specs.Prelude.{Ok}
 use Rattle.coding.specs.Number.{pick}
 use Rattle.coding.specs.declared.Cause.TheVariants.{BadTrace}
 use Rattle.bits.specs.Rows.{after_of}
@@ -52,32 +51,14 @@ module _ (s : List ℕ) (i : ℕ) where
     unfolding output_from
     output_on n₂ = rw (left h, ← ex, ne_eqb _ _ n₂)
 
--- the four answers
+-- a trace whose length and loop start are right
 module _ (rule : ℕ → ℕ → Bool) (s : List ℕ) (start : ℕ) where
-  pub wrong_length : length_ok (length s) ≡ false → refused_at BadTrace (length s) ≡ check_by rule s start
-  unfolding check_by
-  wrong_length e = rw e
-
   module _ (ok : length_ok (length s) ≡ true) where
-    pub wrong_start : positions s ≤ start → refused_at BadTrace (positions s) ≡ check_by rule s start
-    unfolding check_by
-    wrong_start h = rw (ok, le-ltb start (positions s) h)
-
     module _ (h : start < positions s) where
       walked : check_by rule s start
           ≡ steps_from rule s start (positions s) 0 (pick (output_from s (positions s - start) start) (Ok (positions s)) (refused_at BadTrace start))
       unfolding check_by
       walked = rw (ok, lt-ltb start (positions s) h)
-
-      pub bad_step : (why : Refusal) → ((fine : Answer) → Err why ≡ steps_from rule s start (positions s) 0 fine) → Err why ≡ check_by rule s start
-      bad_step why f = rw walked (f _)
-
-      module _ (good : (fine : Answer) → fine ≡ steps_from rule s start (positions s) 0 fine) where
-        pub no_output : output_from s (positions s - start) start ≡ false → refused_at BadTrace start ≡ check_by rule s start
-        no_output e = rw (walked, e) (good _)
-
-        pub well_formed : output_from s (positions s - start) start ≡ true → Ok (positions s) ≡ check_by rule s start
-        well_formed e = rw (walked, e) (good _)
 
       pub with_output : output_from s (positions s - start) start ≡ true →
           steps_from rule s start (positions s) 0 (Ok (positions s)) ≡ check_by rule s start

@@ -3,7 +3,6 @@ pub mod Allowing
 pub mod Nodes
 pub mod Trees
 pub mod Parts
-pub mod Answers
 pub mod Small
 pub mod Codes
 pub mod Undoing

@@ -3,7 +3,6 @@
 use Prim.Native.Nat.{ℕ, zero, suc, ◌+◌, ◌-◌, ◌≤◌, ◌<◌}
 use native.Mathlib.Omega.{arith}
 use mathlib.Core.Path.{◌≡◌, refl, sym}
-use mathlib.Core.Logic.{◌⊎◌, inl, inr}
 use mathlib.Core.List.{List, [], ◌∷◌}
 use mathlib.Core.Bool.{Bool, true, false}
 use lib.ListN.{length}
@@ -12,9 +11,8 @@ use borrow.Author.Tests.{lt-ltb, le-ltb, eq-eqb, ne_eqb, leb-true, ltb-false, eq
 use Rattle.coding.specs.Refusal.{NumberRead, value_then, refused_at}
 use Rattle.std.specs.Prelude.{Ok, Err}
 use Rattle.coding.specs.Number.{pick, number_at}
-use Rattle.coding.specs.declared.Cause.{Cause}
-use Rattle.coding.specs.declared.Cause.TheVariants.{LeftOver, NotAllowed, NameAbsent}
-use Rattle.sheet.specs.Sheet.{eqbs, part, name_of, name_at, body_after, entry_of, entry_at, check_entry, check_from, seek_entry, seek_from, find_in, body_of, start_of, longest_name, most_entries, EntryAt, Lookup, entry_from}
+use Rattle.coding.specs.declared.Cause.TheVariants.{LeftOver, NameAbsent}
+use Rattle.sheet.specs.Sheet.{eqbs, name_of, name_at, body_after, entry_of, entry_at, check_entry, check_from, seek_entry, seek_from, find_in, longest_name, most_entries, EntryAt, entry_from}
 use Rattle.coding.proofs.Blocks.{block_by_number}
 use Rattle.coding.specs.Block.{block_of, block_at, BlockAt, span_from}
 
@@ -50,16 +48,7 @@ same_is xs ys false f g = go (eqbs xs ys) (λ e. g (eqbs_eq xs ys e))
 
 -- ---- the ways through `name_at`
 module _ (s : List ℕ) (at : ℕ) where
-  pub no_name : (cause : Cause) (place : ℕ) → refused_at cause place ≡ number_at s at → refused_at cause place ≡ name_at s at
-  unfolding name_at
-  no_name cause place q = rw (← q)
-
   module _ (n begin : ℕ) (q : value_then n begin ≡ number_at s at) where
-    pub name_bad : (n ≡ 0) ⊎ ((n ≡ 0 → ⊥) × (longest_name < n)) → refused_at NotAllowed at ≡ name_at s at
-    unfolding name_at
-    name_bad (inl z) = rw (← q, eq-eqb _ _ z)
-    name_bad (inr l) = rw (← q, ne_eqb _ _ l.0, lt-ltb _ _ l.1)
-
     module _ (nz : n ≡ 0 → ⊥) where
       pub name_fits : n ≤ longest_name → block_at s at ≡ name_at s at
       unfolding name_at
@@ -67,15 +56,7 @@ module _ (s : List ℕ) (at : ℕ) where
 
 -- ---- the ways through `entry_at`
 module _ (s : List ℕ) (at : ℕ) where
-  pub entry_no_name : (cause : Cause) (place : ℕ) → refused_at cause place ≡ name_at s at → refused_at cause place ≡ entry_at s at
-  unfolding entry_at
-  entry_no_name cause place q = rw (← q)
-
   module _ (name name_end : ℕ) (q : span_from name name_end ≡ name_at s at) where
-    pub entry_no_body : (cause : Cause) (place : ℕ) → refused_at cause place ≡ block_at s name_end → refused_at cause place ≡ entry_at s at
-    unfolding entry_at
-    entry_no_body cause place r = rw (← q, ← r)
-
     pub entry_whole : (body body_end : ℕ) → span_from body body_end ≡ block_at s name_end → entry_from name name_end body body_end ≡ entry_at s at
     unfolding entry_at
     entry_whole body body_end r = rw (← q, ← r)
@@ -99,13 +80,6 @@ module _ (s : List ℕ) (count : ℕ) where
     pub check_done : left ≤ 0 → length s ≤ at → Ok count ≡ check_from s count left at
     check_done h l = rw (check_end left at h, le-ltb _ _ l)
 
-    pub check_bad : (cause : Cause) (place : ℕ) → 0 < left → refused_at cause place ≡ entry_at s at → refused_at cause place ≡ check_from s count left at
-    check_bad cause place h q = rw (check_turn left at h, ← q)
-
-    pub check_next : (begin end body next : ℕ) → 0 < left → entry_from begin end body next ≡ entry_at s at →
-        check_from s count (left - 1) next ≡ check_from s count left at
-    check_next begin end body next h q = rw (check_turn left at h, ← q)
-
 -- ---- the turns of `seek`
 module _ (s name : List ℕ) where
   pub seek_end : (left at : ℕ) → left ≤ 0 → refused_at NameAbsent 0 ≡ seek_from s name left at
@@ -118,56 +92,13 @@ module _ (s name : List ℕ) where
   seek_turn zero at h = absurd (omega arith)
   seek_turn (suc left) at h = let one : suc left - 1 ≡ left = omega arith in rw one
 
-  module _ (left at : ℕ) (h : 0 < left) where
-    pub seek_bad : (cause : Cause) (place : ℕ) → refused_at cause place ≡ entry_at s at → refused_at cause place ≡ seek_from s name left at
-    seek_bad cause place q = rw (seek_turn left at h, ← q)
-
-    module _ (begin end body next : ℕ) (q : entry_from begin end body next ≡ entry_at s at) (r : Bool) (t : r ≡ eqbs (part s begin end) name) where
-      pub seek_this : r ≡ true → span_from body next ≡ seek_from s name left at
-      seek_this y = rw (seek_turn left at h, ← q, ← t, y)
-
-      pub seek_next : r ≡ false → seek_from s name (left - 1) next ≡ seek_from s name left at
-      seek_next y = rw (seek_turn left at h, ← q, ← t, y)
-
 -- ---- the ways through `find`
 module _ (s name : List ℕ) where
-  pub find_uncounted : (cause : Cause) (place : ℕ) → refused_at cause place ≡ number_at s 0 → refused_at cause place ≡ find_in s name
-  unfolding find_in
-  find_uncounted cause place q = rw (← q)
-
   module _ (count start : ℕ) (q : value_then count start ≡ number_at s 0) where
-    pub find_many : most_entries < count → refused_at NotAllowed 0 ≡ find_in s name
-    unfolding find_in
-    find_many l = rw (← q, lt-ltb _ _ l)
-
     module _ (l : count ≤ most_entries) where
-      pub find_faulty : (cause : Cause) (place : ℕ) → refused_at cause place ≡ check_from s count count start → refused_at cause place ≡ find_in s name
-      unfolding find_in
-      find_faulty cause place r = rw (← q, le-ltb _ _ l, ← r)
-
       pub find_sought : (n : ℕ) → Ok n ≡ check_from s count count start → seek_from s name count start ≡ find_in s name
       unfolding find_in
       find_sought n r = rw (← q, le-ltb _ _ l, ← r)
-
--- ---- the ways through `body`
-module _ (found : Lookup) where
-  module _ (begin end : ℕ) (q : span_from begin end ≡ found) where
-    pub body_found : (s : List ℕ) → part s begin end ≡ body_of s found
-    unfolding body_of
-    body_found s = rw (← q)
-
-    pub start_found : begin ≡ start_of found
-    unfolding start_of
-    start_found = rw (← q)
-
-  module _ (cause : Cause) (place : ℕ) (q : refused_at cause place ≡ found) where
-    pub body_none : (s : List ℕ) → [] ≡ body_of s found
-    unfolding body_of
-    body_none s = rw (← q)
-
-    pub start_none : 0 ≡ start_of found
-    unfolding start_of
-    start_none = rw (← q)
 
 -- ---- what is named lies inside the sheet, and a name has 1 to 16 bytes
 abbrev TextInside : List ℕ → BlockAt → Type 0

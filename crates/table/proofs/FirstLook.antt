@@ -2,7 +2,7 @@
 -- Assumes nothing.
 use Prim.Native.Nat.{ℕ, ◌+◌, ◌≤◌, ◌<◌}
 use native.Mathlib.Omega.{arith}
-use mathlib.Core.Path.{◌≡◌, refl, sym, ◌∙◌, ap}
+use mathlib.Core.Path.{◌≡◌, sym, ◌∙◌, ap}
 use mathlib.Core.Logic.{⊎_elim}
 use mathlib.Core.List.{List}
 use lib.ListN.{length}
@@ -42,9 +42,6 @@ pub record Looks (most : ℕ) (source : Places) (first : Want) (counts : List �
   pub room : length counts ≡ 65
   pub few : n ≤ at
   pub inside : at ≤ source.size
-
-pub begins : (most : ℕ) (source : Places) (first : Want) → Looks most source first no_counts first 0 0
-begins most source first = record { left = refl; kept = refl; room = refl; few = omega arith; inside = omega arith }
 
 module _ {most : ℕ} {source : Places} {first : Want} {counts : List ℕ} {want : Want} {at n : ℕ}
     (i : Looks most source first counts want at n) where

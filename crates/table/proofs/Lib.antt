@@ -1,9 +1,7 @@
-pub mod Roles
 pub mod Steps
 pub mod Stands
 pub mod FirstLook
 pub mod SecondLook
-pub mod Whole
 pub mod Alike
 pub mod Fair
 pub mod Undone

@@ -1,18 +1,13 @@
 -- The second look at a source, a number at a time: what is left to do gives the final answer.
 -- Assumes nothing.
 use Prim.Native.Nat.{ℕ, ◌≤◌, ◌<◌}
-use native.Mathlib.Omega.{arith}
 use mathlib.Core.Path.{◌≡◌, refl, sym, ◌∙◌, ap}
 use mathlib.Core.Logic.{⊎_elim}
-use mathlib.Core.Bool.{true}
 use mathlib.Core.List.{List}
-use lib.Dec.{leb}
-use borrow.Author.Tests.{eq-eqb, ne_eqb}
 use Rattle.std.specs.Prelude.{Err}
 use Rattle.coding.specs.Refusal.{Answer, value_then}
 use Rattle.coding.specs.Code.{Places, Turns}
 use Rattle.coding.specs.declared.Refusal.{Refusal}
-use Rattle.ranges.specs.Limits.{err_state}
 use Rattle.ranges.specs.Order.{step_of}
 use Rattle.ranges.specs.declared.Want.{Want}
 use Rattle.ranges.specs.declared.Step.{Step}
@@ -20,25 +15,12 @@ use Rattle.ranges.specs.declared.Step.TheVariants.{More, Last, NotAllowed as Bad
 use Rattle.table.specs.declared.Role.{Role}
 use Rattle.table.specs.declared.tests.Ruling.{Ruling}
 use Rattle.table.specs.declared.tests.Ruling.TheVariants.{Fine}
-use Rattle.table.specs.Table.{role_of, state_ok, test_says, tests_from, table_start}
+use Rattle.table.specs.Table.{role_of, test_says, tests_from, table_start}
 use Rattle.table.proofs.Steps.{tests, shows, tests_item, turned, stopped}
-
--- b is err, or at most the count of states
-module _ (states b : ℕ) where
-  pub is_err : b ≡ err_state → true ≡ state_ok states b
-  unfolding state_ok
-  is_err h = rw (eq-eqb _ _ h)
-
-  pub no_err : (b ≡ err_state → ⊥) → leb b states ≡ state_ok states b
-  unfolding state_ok
-  no_err h = rw (ne_eqb _ _ h)
 
 pub record Tests (most : ℕ) (counts : List ℕ) (accepted : Answer) (source : Places) (want : Want) (at : ℕ) : Type 0 where
   pub left : tests_from most counts want (source.code at) accepted ≡ tests_from most counts table_start (source.code 0) accepted
   pub inside : at ≤ source.size
-
-pub begins : (most : ℕ) (counts : List ℕ) (accepted : Answer) (source : Places) → Tests most counts accepted source table_start 0
-begins most counts accepted source = record { left = refl; inside = omega arith }
 
 module _ {most : ℕ} {counts : List ℕ} {accepted : Answer} {source : Places} {want : Want} {at : ℕ}
     (turns : Turns source) (i : Tests most counts accepted source want at) where

@@ -36,9 +36,6 @@ pub reads_on : (left : ℕ) → 1 < left → More (Reading (left - 1)) ≡ pick 
 reads_on left l = rw (lt-leb _ _ l)
 
 module _ {source : Places} where
-  pub stays : {want : Want} {at n : ℕ} → Passes source want at n want at n
-  stays = record { answers = λ most. refl; counts = λ most kept. refl; later = omega arith; few = omega arith; inside = λ h. h }
-
   pub joined : {want want' want'' : Want} {at n at' n' at'' n'' : ℕ} → Passes source want at n want' at' n' → Passes source want' at' n' want'' at'' n'' →
       Passes source want at n want'' at'' n''
   joined p q = record {
