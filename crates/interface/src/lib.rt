@@ -118,6 +118,7 @@ fn tell_ran(ran: Result<Closed, Stop>) -> Told
     }
 }
 
+// The kind, which C tells as a bool.
 fn kind_of(translated: bool) -> Kind
     ensures { result ≡ kind_of translated }
 {

@@ -7,7 +7,8 @@ mod places;
 ghost use Rattle.std.specs.Prelude.{◌≡◌};
 ghost use Rattle.lookups.specs.Places.{inputs_of, internals_of, outputs_of, source_of, tests_of, test_of, processes_of, states_of, actions_of, action_of, state_place, action_from, scans_of, return_of, reading_of};
 
-// A test as its three numbers.
+// A test as its three numbers. The kind is a number, as the op of an action is: a look-up answers what stands there, also
+// such as no table has.
 #[derive(Clone, Copy)]
 pub struct TestRow {
     pub kind: u16,

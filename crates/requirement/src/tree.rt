@@ -14,7 +14,8 @@ pub struct Part {
     pub spare: u16,
 }
 
-// An atom's number, where below the atom so much of the depth is left.
+// An atom's number, where below the atom so much of the depth is left. Apart from `read_atom`: that one answers the
+// node, this one what may still come, and the one test that both make is no longer than a call.
 fn atom<S: Source>(spare: u16, left: u16, source: S, place: usize) -> Result<Part, Refusal>
     ensures { part_sum (S.places source) result
         ≡ summed (spare + 1) (atom_of left ((S.places source).code place)) }

@@ -38,7 +38,7 @@ pub struct Machine {
 }
 
 // What one move comes to: what stops the run, if anything does, and the machine after the move, or, where it stops the
-// run, before it.
+// run, before it. Both are told in every case, so it is no Result.
 #[derive(Clone, Copy)]
 pub struct Moved {
     pub stopped: Option<Cause>,
@@ -61,7 +61,8 @@ pub struct Closed {
     pub start: usize,
 }
 
-// Why a run does not close: the cause, the scan and the process of a stop (0 where no process is to be named); or a refusal of what was given.
+// Why a run does not close: the cause, the scan and the process of a stop (0 where no process is to be named); or a
+// refusal of what was given.
 #[derive(Clone, Copy, Debug, PartialEq, Eq)]
 pub enum Stop {
     Halted(Cause, u16, u16),

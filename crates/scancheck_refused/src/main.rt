@@ -3,6 +3,7 @@
 // requirement, an unknown tag, is not read any more.
 #![tactic(auto)]
 
+// The same as in scancheck: the gate runs a program on one stored input, so each input has a program.
 fn main(rt: HostRuntime) {
     let mut input = [0u8; program::INPUT_ROOM];
     let mut output = [0u8; program::OUTPUT_ROOM];
