@@ -5,18 +5,18 @@ ghost use Rattle.controller.specs.Tests.{compares, truth};
 use crate::NONE;
 
 // Whether a value is equal to the number b, or else whether it exceeds it. Neither is true of an unset one. `equal` is
-// a flag, as the promise has it.
+// a flag, as the promise has it. It returns early: with `if .. else` here and in the rules a run took longer.
 #[tactic(auto, unfolding(crate::specs::Tests::compares))]
 pub fn compares(equal: bool, b: u32, value: u32) -> bool
     ensures { result ≡ compares equal b value }
 {
     if value == NONE {
-        false
-    } else if equal {
-        value == b
-    } else {
-        b < value
+        return false;
     }
+    if equal {
+        return value == b;
+    }
+    b < value
 }
 
 // Whether a test of this kind with this b is true, where variable a has this value and process a is in this state. The

@@ -14,18 +14,17 @@ use lookups::{ActionRow, TestRow};
 use requirement::Phase;
 
 // Whether a test is true of a state. A test of a process sees no variable, and one of a variable no process: only what
-// it sees is fetched.
+// it sees is fetched. It and `next_of` return early: with `if .. else` a run took longer.
 #[tactic(auto, unfolding(controller::specs::Tests::truth))]
 fn test_holds(test: TestRow, c: Controller) -> bool
     ensures { result ≡ truth test.kind test.b (value_at c.variables test.a) (state_at (states_of c.processes) test.a) }
 {
     if test.kind == 2 {
         let state = c.process(test.a).state;
-        controller::tests::holds(test.kind, test.b, controller::NONE, state)
-    } else {
-        let value = controller::value_at(&c.variables, test.a);
-        controller::tests::holds(test.kind, test.b, value, 0)
+        return controller::tests::holds(test.kind, test.b, controller::NONE, state);
     }
+    let value = controller::value_at(&c.variables, test.a);
+    controller::tests::holds(test.kind, test.b, value, 0)
 }
 
 // Whether a guard is true: guard 0 always, guard k + 1 with test k.
@@ -33,7 +32,10 @@ fn test_holds(test: TestRow, c: Controller) -> bool
 fn guard_holds(table: &[u16], c: Controller, guard: u16) -> bool
     ensures { result ≡ guard_holds table.now c guard }
 {
-    guard == 0 || test_holds(lookups::test(table, guard - 1), c)
+    if guard == 0 {
+        return true;
+    }
+    test_holds(lookups::test(table, guard - 1), c)
 }
 
 // Where an action's body goes on, its guard tested on this state.
@@ -42,10 +44,9 @@ pub fn next_of(table: &[u16], c: Controller, row: ActionRow) -> u16
     ensures { result ≡ next_of table.now c row }
 {
     if guard_holds(table, c, row.guard) {
-        row.next_if
-    } else {
-        row.next_else
+        return row.next_if;
     }
+    row.next_else
 }
 
 // The state after the read of a scan, where so many scans are done before it.
