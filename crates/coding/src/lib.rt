@@ -73,7 +73,8 @@ impl Cause {
     }
 }
 
-// The paper's number of a cause.
+// The paper's number of a cause. (A function, which docs/PROMISES.md names, and no `u8::from`: C and the texts tell it,
+// and nothing is converted back.)
 pub fn number_of(cause: Cause) -> u8
     ensures { result ≡ number_of cause }
 {
@@ -221,7 +222,8 @@ pub fn count_numbers(code: &[u8]) -> usize
 {
     let mut at: usize = 0;
     let mut n: usize = 0;
-    // No `for`: how long a number is shows only when it is read, so there is no index to range over.
+    // No `for`: how long a number is shows only when it is read, so there is no index to range over, and an iterator
+    // that kept the place would be a type with this same step.
     while let Ok(number) = read_number(code, at) {
         n += 1;
         at = number.next;

@@ -26,7 +26,7 @@ const VARIABLES: usize = 32;
 const PROCESSES: usize = 8;
 
 // A process: its functional state (0 stop, 1 upward active, 255 err), its action counter (0 past the end of the body)
-// and its timer.
+// and its timer. They are numbers, since `act` promises of any state, also of such as no run reaches.
 #[derive(Clone, Copy, PartialEq, Eq, Debug)]
 pub struct Process {
     pub state: u16,
@@ -76,7 +76,7 @@ pub enum Outcome {
 }
 
 // What a rule makes of the variables, the acting process's record and the record of the other process that the action
-// names.
+// names: the three of `Parts`, each a field of its own, as the definition `rule_of` names them.
 #[derive(Clone, Copy, PartialEq, Eq, Debug)]
 pub struct Done {
     pub outcome: Outcome,

@@ -112,10 +112,7 @@ fn tell<T: Accepted>(answer: Result<T, Refusal>) -> Told
 fn tell_ran(ran: Result<Closed, Stop>) -> Told
     ensures { result ≡ ran_told ran }
 {
-    match ran {
-        Ok(closed) => closed.told(),
-        Err(stop) => refuse(stop.told()),
-    }
+    tell(ran.map_err(Stop::told))
 }
 
 // The kind, which C tells as a bool.

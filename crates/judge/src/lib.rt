@@ -16,7 +16,7 @@ use coding::{Cause, Refusal};
 use operators::MarkedTrace;
 use requirement::Kind;
 
-// Room for the rows of the three phases.
+// Room for the rows of the three phases, one buffer: a mark is named by its place in it (`mark_place`, `Marked`).
 const MARKS: usize = 1536;
 
 // What an accepted judging answers: whether the requirement holds at moment 0, and how many findings there are.

@@ -40,6 +40,7 @@ fn mark_place(phase: Phase) -> usize
     usize::from(lasso::phase_number(phase)) * rows::ROW
 }
 
+// How many rows `work` has room for differs from one method to the next, so it stands with each.
 impl<'a> MarkedTrace<'a> {
     // How many positions the trace has.
     pub fn positions(&self) -> usize

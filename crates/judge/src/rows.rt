@@ -1,4 +1,5 @@
-// Rows of bits, a byte or four bytes at a time: the highest digit of a byte is its first position.
+// Rows of bits, a byte or four bytes at a time: the highest digit of a byte is its first position. How many positions
+// there are is a number here, and no trace, so their bound stands with each function.
 ghost use Rattle.std.specs.Prelude.{◌≡◌, false, not, ◌||◌, ℕ, ◌+◌, ◌*◌, ◌-◌, ◌/◌, ◌%◌, ◌^◌, ◌≤◌, ◌<◌, length, drop, set, slice_index};
 ghost use Rattle.std.specs.Int.Bits.{bit_or};
 ghost use Rattle.meaning.specs.Rows.{walk};

@@ -8,7 +8,8 @@ use crate::operators::MarkedTrace;
 use crate::rows;
 use requirement::{Kind, Node, One, Two};
 
-// The row of the node whose code begins at `at`, in the first row of `work`. The place after its code.
+// The row of the node whose code begins at `at`, in the first row of `work`. The place after its code; `at` itself where
+// there is no node, of which the caller, who has checked the code, lends none (`Rowed` says nothing then).
 #[cycle(judge_node_judge_one_judge_two)]
 pub fn judge_node(
     kind: Kind,

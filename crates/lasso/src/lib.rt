@@ -12,7 +12,7 @@ ghost use Rattle.lasso.specs.Checking.{length_ok, may_follow, steps_from, output
 use coding::{Answer, Cause, Refusal};
 use requirement::Phase;
 
-// The byte of a phase.
+// The byte of a phase. (Not `u8::from`: the phases are a type of `requirement`.)
 pub fn phase_number(phase: Phase) -> u8
     ensures { result ≡ phase_number phase }
 {
@@ -31,7 +31,7 @@ fn phase_in(trace: &[u8], p: usize) -> u8
     trace[p * 5]
 }
 
-// The phase byte of a position; 0 past the end.
+// The phase byte of a position; 0 past the end, where it cannot fail.
 #[tactic(auto, using(crate::proofs::Looking::no_phase))]
 pub fn phase_byte(trace: &[u8], p: usize) -> u8
     ensures { result ≡ phase_byte trace.now p }

@@ -15,7 +15,8 @@ pub const INPUT_ROOM: usize = 60001;
 // No text is longer.
 pub const OUTPUT_ROOM: usize = 100000;
 
-// How many bytes were read, how many the text has, and whether all of it was written.
+// How many bytes were read, how many the text has, and whether all of it was written. A bool, and no Result:
+// `check_input` cannot fail, and tells the two counts in either case.
 #[derive(Clone, Copy)]
 pub struct Checked {
     pub read: usize,

@@ -1,4 +1,5 @@
-// Which value each number of a table may have, once those before it are known.
+// Which value each number of a table may have, once those before it are known. Op, kind and guard are numbers here: each
+// promise is on any, and docs/PROMISES.md names the functions.
 ghost use Rattle.std.specs.Prelude.{◌≡◌};
 ghost use Rattle.ranges.specs.Values.{within, total_ok, is_internal, is_variable, test_a_ok, op_ok, x_ok, y_ok, uses_nexts, guard_ok, uses_else, next_ok};
 

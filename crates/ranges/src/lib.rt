@@ -112,7 +112,8 @@ pub enum Want {
 }
 
 // What a number leads to: another is wanted, it was the last, or it may not stand there.
-// It is no Result<Option<Want>, _>: tests and theorems speak of its three cases, and none is an error of another.
+// It is no Result<Option<Want>, _>: the definition `step_of`, which `advance` promises, has these three cases, and the
+// place of a refusal, which an error would have to tell, is not known here.
 #[derive(Clone, Copy)]
 pub enum Step {
     More(Want),

@@ -1,4 +1,5 @@
-// What the programs print of a refusal and of a kind of requirement.
+// What the programs print of a refusal and of a kind of requirement. (No `Display`: the types are other crates', and the
+// words the programs' own.)
 ghost use Rattle.std.specs.Prelude.{◌≡◌, OnOk};
 ghost use Rattle.std.specs.Io.KnownBytes.{Appends};
 ghost use Rattle.coding.specs.Refusal.{number_of};

@@ -24,9 +24,7 @@ impl Lines<'_> {
         requires { self.old.at < 2 ^ 33 }
         ensures { Puts (byte ∷ []) self.old self.new }
     {
-        if self.at < self.out.len() {
-            self.out[self.at] = byte;
-        }
+        coding::set_at(self.out, self.at, byte);
         self.at += 1;
     }
 

@@ -63,7 +63,7 @@ pub enum Node {
     OverTwo(Two),
 }
 
-// What a tag asks for.
+// What a tag asks for. It is no Node, whose atom has its number: behind the tag that is yet to be read.
 #[derive(Clone, Copy)]
 pub enum Tag {
     Atom,
@@ -93,7 +93,8 @@ pub struct Checked {
     pub depth: u16,
 }
 
-// What a tag asks for, if it is known.
+// What a tag asks for, if it is known. (No `TryFrom`: a number that is no tag is no error here, and docs/PROMISES.md
+// names this function.)
 #[tactic(auto, unfolding(crate::specs::Tags::tag_of))]
 pub fn tag_of(v: u16) -> Option<Tag>
     ensures { result ≡ tag_of v }
@@ -125,6 +126,7 @@ pub fn tag_of(v: u16) -> Option<Tag>
     }
 }
 
+// The limits of a kind, a function for each: docs/PROMISES.md names the three.
 pub fn node_limit(kind: Kind) -> u16
     ensures { result ≡ node_limit kind }
 {

@@ -38,7 +38,8 @@ pub struct Machine {
 }
 
 // What one move comes to: what stops the run, if anything does, and the machine after the move, or, where it stops the
-// run, before it. Both are told in every case, so it is no Result.
+// run, before it. It is no Result: the definition `recorded_move` and the theorems over it (`invariants`) have a machine
+// in both cases.
 #[derive(Clone, Copy)]
 pub struct Moved {
     pub stopped: Option<Cause>,
@@ -46,7 +47,7 @@ pub struct Moved {
 }
 
 // Where a run has come: what stopped it, if anything did, and the state of this number, wanted or the last before the
-// stop.
+// stop. It is no Result: number and machine are looked at in both cases.
 #[derive(Clone, Copy)]
 pub struct Reached {
     pub stopped: Option<Cause>,
@@ -61,8 +62,8 @@ pub struct Closed {
     pub start: usize,
 }
 
-// Why a run does not close: the cause, the scan and the process of a stop (0 where no process is to be named); or a
-// refusal of what was given.
+// Why a run does not close: the cause, the scan and the process of a stop (0 where no process is to be named, as the
+// definition `turn_of` has it); or a refusal of what was given.
 #[derive(Clone, Copy, Debug, PartialEq, Eq)]
 pub enum Stop {
     Halted(Cause, u16, u16),

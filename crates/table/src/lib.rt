@@ -14,7 +14,8 @@ ghost use Rattle.table.specs.Working.Looking.{Looked};
 use coding::{Answer, Cause, Refusal, Source};
 use ranges::{Step, Want};
 
-// Room for the count of processes and the states of at most 64.
+// Room for the count of processes and the states of at most 64: at place 0 the one, at place p the states of process p,
+// as the definition `noted` has them.
 const COUNTS: usize = 65;
 
 // What a number that is wanted is to the second look at the tests.
@@ -25,7 +26,7 @@ enum Role {
     ProcessCount,
     // how many active states a process has
     StateCount(u16),
-    // a test's a, of this kind; its b, of this kind and with this a
+    // a test's a, of this kind; its b, of this kind and with this a (the kind a number, as in the definition `role_of`)
     OfTestA(u16),
     OfTestB(u16, u16),
     Other,

@@ -28,7 +28,8 @@ const ALWAYS: u8 = 10;
 
 const UNTIL: u8 = 11;
 
-// The number of a mark. (Not `u8::from`: the marks are a type of `requirement`.)
+// The number of a mark in a requirement, which is not that of the phase in a trace. (Not `u8::from`: the marks are a
+// type of `requirement`.)
 pub fn mark_number(mark: Phase) -> u8
     ensures { result ≡ mark_no mark }
 {

@@ -7,7 +7,8 @@ use crate::writing::Writing;
 use requirement::{Kind, Node, One, Two};
 
 impl Writing<'_> {
-    // Translates the node whose code begins at `at`, at most `depth` deep. The place after its code.
+    // Translates the node whose code begins at `at`, at most `depth` deep. The place after its code; `at` itself where
+    // there is no node, of which the caller, who has checked the code, lends none (`Wrote` says nothing then).
     #[cycle(translate_node_translate_one_translate_two)]
     pub fn translate_node(&mut self, code: &[u8], at: usize, depth: u16) -> usize
         ensures { Wrote (walk_at untranslated depth code.now at) self.old self.new result }

@@ -23,8 +23,8 @@ impl Writing<'_> {
         }
     }
 
-    // Bytes, as far as there is room. (`copy_from_slice` was tried: it is a call for one to eleven bytes, and
-    // translating took 6 in 100 longer.)
+    // Bytes, as far as there is room. (`copy_from_slice` is no plainer for one to eleven bytes, since it would need the
+    // room tested; and translating took 6 in 100 longer.)
     pub fn put(&mut self, bytes: &[u8])
         ensures { Puts bytes.now self.old self.new }
     {

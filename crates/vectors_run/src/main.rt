@@ -16,10 +16,26 @@ use text::ROOM;
 // No more of the input is read.
 const INPUT_ROOM: usize = 300000;
 
+// What a record asks for. There is one command, 0.
+#[derive(Clone, Copy)]
+enum Command {
+    Run,
+    Unknown,
+}
+
+impl From<u8> for Command {
+    fn from(number: u8) -> Self {
+        match number {
+            0 => Command::Run,
+            _ => Command::Unknown,
+        }
+    }
+}
+
 // A record.
 #[derive(Clone, Copy)]
 struct Asked<'a> {
-    command: u8,
+    command: Command,
     room: u16,
     table: &'a [u8],
     inputs: &'a [u8],
@@ -47,7 +63,7 @@ impl Asked<'_> {
 
 impl<'a> Record<'a> for Asked<'a> {
     fn next(unread: &mut Unread<'a>) -> Option<Self> {
-        let command = unread.byte()?;
+        let command = Command::from(unread.byte()?);
         let room = unread.number()?;
         let size = unread.number()?;
         let length = unread.number()?;
@@ -61,12 +77,11 @@ impl<'a> Record<'a> for Asked<'a> {
         })
     }
 
-    // Command 0 runs. There is no other.
     fn obey<W: Write>(&self, out: &mut W) -> io::Result<()> {
-        if self.command == 0 {
-            self.run(out)?;
+        match self.command {
+            Command::Run => self.run(out),
+            Command::Unknown => Ok(()),
         }
-        Ok(())
     }
 }
 
