@@ -7,11 +7,9 @@ use mathlib.Core.List.{List, [], ◌∷◌, ◌++◌}
 use mathlib.Core.Bool.{Bool, true, false}
 use lib.ListN.{length, length-append}
 use lib.Dec.{ltb}
-use lib.Seq.{set_out}
 use borrow.Author.Tests.{lt-ltb, le-ltb}
 use Rattle.coding.specs.Number.{pick}
-use Rattle.coding.specs.Room.{over}
-use Rattle.coding.proofs.Bytes.{store₁, over_nil, over_append}
+use Rattle.coding.proofs.Bytes.{over_nil, over_append}
 use Rattle.report.specs.Lines.{digits, decimal, line_feed, at_line, refused_line, positions_line, count_line}
 use Rattle.report.specs.Placing.{Puts}
 use Rattle.report.specs.declared.lines.Lines.{Lines}
@@ -31,10 +29,6 @@ puts_both xs ys a b c p q = record {
 
 pub puts_same : (xs ys : List ℕ) (a b : Lines) → xs ≡ ys → Puts xs a b → Puts ys a b
 puts_same xs ys a b e p = rw (← e) p
-
--- ---- one byte
-pub past_end : (d : List ℕ) (at a : ℕ) → length d ≤ at → d ≡ over d at (a ∷ [])
-past_end d at a h = sym (set_out d at a h) ∙ store₁ d at a
 
 -- ---- the digits of a number
 pub digits_most : (k n : ℕ) → length (digits k n) ≤ k
