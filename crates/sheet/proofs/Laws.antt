@@ -153,7 +153,6 @@ module _ (s : List ℕ) where
 
 -- what the functions' proofs go by
 
-
 pub ruleset checks = (check_end, check_turn, check_over, check_done)
 
 pub ruleset seeks = (seek_end, seek_turn)
