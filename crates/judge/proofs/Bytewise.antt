@@ -23,7 +23,7 @@ pub record Each (R : ℕ → ℕ → ℕ → Type 0) (s₀ : List ℕ) (i : ℕ)
   pub rest : (k : ℕ) → i ≤ k → get_or s k 0 ≡ get_or s₀ k 0
 
 -- What holds of the digits of each byte holds of the bits of the row.
-by_bits : (f : Bool → Bool → Bool) (s o t : List ℕ) (n : ℕ)
+pub by_bits : (f : Bool → Bool → Bool) (s o t : List ℕ) (n : ℕ)
     → ((i : ℕ) → i < n → (k : ℕ) → k < 8 → bit_b (get_or t i 0) k ≡ f (bit_b (get_or s i 0) k) (bit_b (get_or o i 0) k))
     → (p : ℕ) → p < 8 * n → bit_at t p ≡ f (bit_at s p) (bit_at o p)
 unfolding bit_at

@@ -63,7 +63,8 @@ impl<'a> MarkedTrace<'a> {
     {
         let row = self.row();
         let from = mark_place(phase);
-        work[..row].copy_from_slice(&self.marks[from..from + row]);
+        // No `copy_from_slice` here and in `repeat`: the archive for C would need `memmove` from outside for it.
+        rows::with_each(&mut work[..row], &self.marks[from..], |_, mark| mark);
     }
 
     // The row where the phase is this one, and nothing elsewhere.
@@ -136,7 +137,7 @@ impl<'a> MarkedTrace<'a> {
     {
         let row = self.row();
         let (first, second) = work.split_at_mut(row);
-        second[..row].copy_from_slice(first);
+        rows::with_each(&mut second[..row], first, |_, x| x);
     }
 
     // The next position's bit: X.

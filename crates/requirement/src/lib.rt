@@ -211,8 +211,20 @@ fn read_atom(code: &[u8], place: usize) -> Result<NodeRead, Refusal>
 pub fn check<S: Source>(kind: Kind, source: S) -> Result<Checked, Refusal>
     ensures { result ≡ checked kind ((S.places source).code 0) }
 {
-    let part = tree::tree(kind, depth_limit(kind), node_limit(kind), source, 0)?;
-    tree::whole(kind, part, source)
+    let mut part = tree::Part {
+        next: 0,
+        left: 0,
+        spare: 0,
+    };
+    tree::tree(
+        kind,
+        depth_limit(kind),
+        node_limit(kind),
+        source,
+        0,
+        &mut part,
+    )?;
+    tree::whole(kind, &part, source)
 }
 
 // Reads a requirement's bytes into numbers.

@@ -10,26 +10,30 @@ pub struct Writing<'a> {
 }
 
 impl Writing<'_> {
-    ghost use Rattle.std.specs.Prelude.{[], ◌∷◌};
-    ghost use Rattle.translate.specs.Writing.{Puts};
+    ghost use Rattle.std.specs.Prelude.{◌≤◌, length};
+    ghost use Rattle.translate.specs.Writing.{Put, Puts};
 
-    // One byte, if there is room.
-    fn byte(&mut self, byte: u8)
-        ensures { Puts (byte ∷ []) self.old self.new }
+    // Bytes from a place of a buffer on, as far as there is room. The place after them. Buffer and place are values
+    // here: kept in the struct, they went through memory at every byte, and translating took up to twice as long.
+    // (`copy_from_slice` is no plainer for one to eleven bytes, since it would need the room tested.)
+    fn put_from(bytes: &[u8], out: &mut [u8], place: usize) -> usize
+        requires { place ≤ length out.old }
+        ensures { Put out.old place bytes.now out.new result }
     {
-        if self.place < self.out.len() {
-            self.out[self.place] = byte;
-            self.place += 1;
+        let mut at = place;
+        for byte in bytes {
+            if at < out.len() {
+                out[at] = *byte;
+                at += 1;
+            }
         }
+        at
     }
 
-    // Bytes, as far as there is room. (`copy_from_slice` is no plainer for one to eleven bytes, since it would need the
-    // room tested; and translating took 6 in 100 longer.)
+    // Bytes at the place, as far as there is room.
     pub fn put(&mut self, bytes: &[u8])
         ensures { Puts bytes.now self.old self.new }
     {
-        for byte in bytes {
-            self.byte(*byte);
-        }
+        self.place = Writing::put_from(bytes, self.out, self.place);
     }
 }

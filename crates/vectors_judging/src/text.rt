@@ -20,8 +20,9 @@ pub fn say_judged<W: Write>(
     match answer {
         Err(why) => say_refused(out, why),
         Ok(Verdict { holds, count }) => {
-            let verdict = if holds { "holds" } else { "fails" };
-            write!(out, ": {verdict}, findings {count}")?;
+            // With its colon, so that it is one write.
+            let verdict = if holds { ": holds" } else { ": fails" };
+            write!(out, "{verdict}, findings {count}")?;
             let (pairs, _) = list.as_chunks::<2>();
             say_row(out, pairs, count, |pair| u16::from_le_bytes(*pair))
         }

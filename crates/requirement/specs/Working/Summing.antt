@@ -24,6 +24,11 @@ abbrev pub part_sum : Places → Result Part Refusal → Sum
 part_sum source (Ok part) = sum part.left part.spare (source.code part.next)
 part_sum source (Err why) = stopped why.cause why.place
 
+-- The same of a part that was lent to the recursion, where the recursion refuses nothing.
+abbrev pub walked_sum : {T : Type 0} → Places → Result T Refusal → Part → Sum
+walked_sum source (Ok done) part = part_sum source (Ok part)
+walked_sum source (Err why) part = part_sum source (Err why)
+
 abbrev pub whole_sum : Kind → Sum → Check
 whole_sum kind (sum left spare (end p)) = nodes_and_depth (node_limit kind - left) (depth_limit kind - spare)
 whole_sum kind (sum left spare (item p v c)) = refused_at LeftOver p
